@@ -1,0 +1,4 @@
+pub mod Kept
+pub mod Spelling
+pub mod Parsing
+pub mod Written

@@ -1,0 +1,6 @@
+pub mod Names
+pub mod Kept
+pub mod Paths
+pub mod Parsed
+pub mod Memory
+pub mod Fits

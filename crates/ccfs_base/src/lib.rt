@@ -1,0 +1,30 @@
+//! The words that the crates of the file system share: names and paths, byte strings, commands and replies, and the
+//! traits of what is read from and written to.
+//!
+//! It stands on `fault_counts` alone. It promises that a `Name` holds the bytes of a name, that a `Path` spells its
+//! names and no others, and that what a call is refused for is what its clause says.
+#![tactic(auto)]
+
+pub mod buffer;
+pub mod commands;
+pub mod edges;
+pub mod memory;
+pub mod naming;
+pub mod paths;
+pub mod refused;
+pub mod replies;
+
+pub use buffer::Bytes;
+pub use commands::Command;
+pub use edges::{Sink, SinkFailed, Source, SourceFailed, write_all};
+pub use memory::{MemSink, MemSource};
+pub use naming::{Name, NameFault};
+pub use paths::{Path, PathFault, PathNames};
+pub use refused::Returned;
+pub use replies::{Names, Refusal, Reply};
+
+/// Want of memory. The call that answers it changed nothing.
+pub type NoMemory = std::alloc::AllocError;
+
+#[cfg(test)]
+mod tests;

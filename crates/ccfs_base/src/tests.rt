@@ -1,0 +1,94 @@
+//! What no clause says: that calls come through with ample memory, and what the clauses mean at examples.
+use super::*;
+use std::test::Fail;
+
+#[test]
+fn the_place_of_a_bad_name_is_its_first_bad_byte_or_its_length(rt: HostRuntime) {
+    let long = [b'a'; 65];
+    let cases = [
+        (b"".as_slice(), 0),
+        (b"..".as_slice(), 2),
+        (b"ab/c".as_slice(), 2),
+        (b"a b".as_slice(), 1),
+        (&long, 65),
+    ];
+    for (text, place) in cases {
+        assert_eq!(rt; Name::parse(text), Err(NameFault::BadName { place }));
+    }
+}
+
+#[test]
+fn names_are_in_the_order_of_their_bytes(rt: HostRuntime) -> Result<(), Fail> {
+    assert!(rt; Name::empty() < Name::parse(b"a")?);
+    assert!(rt; Name::parse(b"a")? < Name::parse(b"a.")?);
+    Ok(())
+}
+
+#[test]
+fn a_path_gives_its_text_and_its_names(rt: HostRuntime) -> Result<(), Fail> {
+    let path = Path::parse(rt.alloc(), b"/a/bc")?.copy()?;
+    assert_eq!(rt; path.all(), b"/a/bc".as_slice());
+    assert!(rt; !path.is_root());
+    let mut names = path.names();
+    assert_eq!(rt; names.next_name(), Some(Name::parse(b"a")?));
+    assert_eq!(rt; names.next_name(), Some(Name::parse(b"bc")?));
+    assert_eq!(rt; names.next_name(), None);
+    Ok(())
+}
+
+#[test]
+fn the_place_of_a_bad_path_is_the_start_of_its_first_bad_component(rt: HostRuntime) {
+    let cases = [
+        (b"".as_slice(), 0),
+        (b"a/b".as_slice(), 0),
+        (b"//".as_slice(), 1),
+        (b"/a/".as_slice(), 3),
+        (b"/a//b".as_slice(), 3),
+        (b"/a/b c".as_slice(), 3),
+    ];
+    for (text, place) in cases {
+        assert_eq!(rt;
+            Path::parse(rt.alloc(), text).err(),
+            Some(PathFault::BadPath { place })
+        );
+    }
+}
+
+#[test]
+fn a_sink_in_small_pieces_takes_all_and_fails_at_its_planned_call(rt: HostRuntime) {
+    let mut sink = MemSink::in_pieces(rt.alloc(), 2, Some(4));
+    assert!(rt; write_all(&mut sink, b"abcde").is_ok());
+    assert_eq!(rt; write_all(&mut sink, b"fg"), Err(SinkFailed));
+    assert_eq!(rt; sink.held(), b"abcde".as_slice());
+    assert_eq!(rt; sink.faults(), 1);
+    assert_eq!(rt; sink.starved(), 0);
+}
+
+#[test]
+fn a_source_gives_its_bytes_behind_its_planned_failure(rt: HostRuntime) -> Result<(), Fail> {
+    let mut source = MemSource::in_pieces(Bytes::of(rt.alloc(), b"abc")?, 2, Some(1));
+    let mut into = [0; 4];
+    assert_eq!(rt; source.read(&mut into), Err(SourceFailed));
+    assert_eq!(rt; source.read(&mut into), Ok(2));
+    assert_eq!(rt; into, [b'a', b'b', 0, 0]);
+    assert_eq!(rt; source.faults(), 1);
+    Ok(())
+}
+
+#[test]
+fn commands_and_replies_are_copied(rt: HostRuntime) -> Result<(), Fail> {
+    let mut bytes = Bytes::of(rt.alloc(), b"a")?;
+    bytes.push(b'b')?;
+    bytes.append(b"cd")?;
+    let write = Command::HWrite {
+        handle: 0,
+        off: 0,
+        bytes,
+    };
+    assert!(rt; write.copy()?.fits());
+    let mut names = Names::new(rt.alloc());
+    names.push((Name::empty(), true))?;
+    let listed = Reply::Listed { total: 1, names };
+    assert!(rt; matches!(listed.copy()?, Reply::Listed { .. }));
+    Ok(())
+}

@@ -1,0 +1,10 @@
+pub mod Steps
+pub mod Making
+pub mod Weighing
+pub mod Said
+pub mod Performing
+pub mod Ending
+pub mod Opening
+pub mod Finishing
+pub mod Reading
+pub mod Closing

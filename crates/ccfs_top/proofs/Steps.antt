@@ -1,0 +1,184 @@
+-- One call more in a run.
+use Rattle.std.proofs.Common.{◌≡◌, ℕ, ◌+◌, ◌≤◌, ◌<◌, Bool, true, false, cond, List, [], ◌∷◌, ◌++◌, length, take, drop, get_or, refl, sym, ap, ◌∙◌, subst, arith, append_assoc}
+use Rattle.std.proofs.lemmas.List.{append-nil, take_more, drop_more, drop_all, map-append}
+use Rattle.std.specs.declared.option.Option.{Option}
+use Rattle.std.specs.declared.option.Option.TheVariants.{None, Some}
+use Rattle.std.specs.declared.result.Result.{Result}
+use Rattle.std.specs.declared.result.Result.TheVariants.{Ok, Err}
+use Rattle.stream_cuts.specs.Streams.{Enter}
+use Rattle.ccfs_base.specs.declared.commands.Command.{Command}
+use Rattle.ccfs_base.specs.declared.commands.Command.TheVariants as command
+use Rattle.ccfs_base.specs.declared.replies.Refusal.{Refusal}
+use Rattle.ccfs_base.specs.declared.replies.Refusal.TheVariants.{Exists, NoInode}
+use Rattle.std.specs.Prelude.{is_some}
+use Rattle.tree_model.specs.declared.rows.Update.TheVariants.{Make}
+use Rattle.tree_model.specs.Entries.{entry}
+use Rattle.tree_model.specs.Walk.{last_of, parent_walk}
+use Rattle.tree_model.specs.declared.rows.Update.{Update}
+use Rattle.tree_model.specs.declared.rows.Entry.{Entry}
+use Rattle.tree_model.specs.Rows.{Rows}
+use Rattle.history_model.specs.Answers.{Now, Answer, make, in_directory, entry_steps, closing, closes, seals_own, is_root, refused, does, no_inode}
+use Rattle.history_model.specs.Histories.{entered_by, entry_of, now_after, hist, seal_count, tree_at, synced_number, durable}
+use Rattle.history_model.proofs.Longer.{hist_append, hist_more, now_more, durable_more, longer_trees, last_cut, seals_counted}
+use Rattle.script_text.specs.declared.scripts.Call.{Call}
+use Rattle.ccfs_top.specs.Stages.{sizes, is_blocked, forces_a_seal}
+use Rattle.ccfs_top.specs.Runs.{asked, history, made, stopped, line_of, reply_lines}
+use Rattle.ccfs_top.specs.Ends.{joined}
+use Rattle.ccfs_top.specs.Sessions.{Stands, Performed}
+use Rattle.ccfs_top.specs.Reached.{history_to, now_at, Reached}
+
+-- ---- what a reply acknowledges
+
+plain_if : (d : ℕ) (b : Bool) (x y : Answer) → synced_number d x.0 ≡ d → synced_number d y.0 ≡ d → synced_number d (cond b x y).0 ≡ d
+plain_if d true x y p q = p
+plain_if d false x y p q = q
+
+plain_in : (d : ℕ) (r : Result ℕ Refusal) (f : ℕ → Answer) → ((x : ℕ) → synced_number d (f x).0 ≡ d) → synced_number d (in_directory r f).0 ≡ d
+plain_in d (Ok x) f p = p x
+plain_in d (Err cause) f p = refl
+
+abbrev if_inode : Now → Bool → List (List ℕ) → ℕ → Answer
+if_inode n b path x = cond (no_inode sizes n) (refused NoInode) (does (Make x (last_of path) n.next b))
+
+abbrev then_make : Now → Bool → List (List ℕ) → ℕ → Answer
+then_make n b path x = cond (is_some (entry n.tree x (last_of path))) (refused Exists) (if_inode n b path x)
+
+-- mkdir and create acknowledge nothing
+plain_make : (d : ℕ) (n : Now) (b : Bool) (path : List (List ℕ)) → synced_number d (make sizes n b path).0 ≡ d
+plain_make d n b path =
+    plain_if d (is_root path) (refused Exists) (in_directory (parent_walk n.tree path) (then_make n b path)) refl (plain_in d (parent_walk n.tree path) (then_make n b path) (λ x.
+    plain_if d (is_some (entry n.tree x (last_of path))) (refused Exists) (if_inode n b path x) refl
+    (plain_if d (no_inode sizes n) (refused NoInode) (does (Make x (last_of path) n.next b)) refl refl)))
+
+no_seal : (n : Now) (s : ℕ) (u : Update) → seals_own n s u ≡ false → closes (closing (seals_own n s u) s ++ Enter s u ∷ []) ≡ 0
+no_seal n s u is = ap (λ (b : Bool). closes (closing b s ++ Enter s u ∷ [])) is
+
+quiet_mkdir : (n : Now) (s : ℕ) (path : List (List ℕ)) (o : Option Update) → forces_a_seal n s o ≡ false → closes (entry_steps n s (command.Mkdir path) o) ≡ 0
+quiet_mkdir n s path None is = refl
+quiet_mkdir n s path (Some u) is = no_seal n s u is
+
+quiet_create : (n : Now) (s : ℕ) (path : List (List ℕ)) (o : Option Update) → forces_a_seal n s o ≡ false → closes (entry_steps n s (command.Create path) o) ≡ 0
+quiet_create n s path None is = refl
+quiet_create n s path (Some u) is = no_seal n s u is
+
+-- after a call that wasn't blocked, what is durable is what was sealed, if it was so before
+pub durable_on : (size : ℕ) (n : Now) (a : ℕ) (c : Command) (d : ℕ) → is_blocked size n a c ≡ false → d ≡ n.seals → synced_number d (entry_of sizes n a c).reply ≡ (entered_by n (entry_of sizes n a c)).seals
+durable_on size n a (command.Mkdir path) d free is =
+    let quiet = quiet_mkdir n 0 path (make sizes n true path).1 free in plain_make d n true path ∙ omega (arith, is, quiet)
+durable_on size n a (command.Create path) d free is =
+    let quiet = quiet_create n 0 path (make sizes n false path).1 free in plain_make d n false path ∙ omega (arith, is, quiet)
+durable_on size n a command.StreamSync d free is = refl
+durable_on size n a c d free is = absurd (cc)
+
+-- ---- the tree that is durable
+
+pub quiet_tree : (n0 : Now) (h : List Entry) (e : Entry) → n0.seals ≡ 0 → (entered_by (now_after n0 h) e).seals ≡ (now_after n0 h).seals
+    → tree_at n0 (h ++ e ∷ []) (entered_by (now_after n0 h) e).seals ≡ tree_at n0 h (now_after n0 h).seals
+quiet_tree n0 h e fresh same =
+    let counted = seals_counted n0 h in
+    ap (tree_at n0 (h ++ e ∷ [])) same ∙ longer_trees n0 h (e ∷ []) (now_after n0 h).seals (omega (arith, counted, fresh))
+
+pub sealed_tree : (n0 : Now) (h : List Entry) (e : Entry) → n0.unsealed ≡ [] → n0.seals ≡ 0 → (entered_by (now_after n0 h) e).unsealed ≡ []
+    → tree_at n0 (h ++ e ∷ []) (entered_by (now_after n0 h) e).seals ≡ (entered_by (now_after n0 h) e).tree
+sealed_tree n0 h e start fresh now =
+    let one : now_after n0 (h ++ e ∷ []) ≡ entered_by (now_after n0 h) e = now_more n0 h e in
+    let counted : (entered_by (now_after n0 h) e).seals ≡ seal_count n0 (h ++ e ∷ []) =
+    ap (λ (z : Now). z.seals) (sym one) ∙ seals_counted n0 (h ++ e ∷ []) ∙ ap (λ (z : ℕ). z + seal_count n0 (h ++ e ∷ [])) fresh ∙ omega arith in
+    ap (tree_at n0 (h ++ e ∷ [])) counted
+    ∙ last_cut n0 (h ++ e ∷ []) start (ap (λ (z : Now). z.unsealed) one ∙ now)
+    ∙ ap (λ (z : Now). z.tree) one
+
+-- ---- one call more
+
+abbrev entry_at : Now → Call → Entry
+entry_at n c = entry_of sizes n c.actor c.command
+
+pub history_on : (n0 : Now) (calls : List Call) (i : ℕ) (c : Call) → i < length calls → c ≡ get_or calls i c
+    → history_to n0 calls (i + 1) ≡ history_to n0 calls i ++ entry_at (now_at n0 calls i) c ∷ []
+history_on n0 calls i c lt is =
+    ap (history n0) (take_more calls i c lt ∙ ap (λ (z : Call). take i calls ++ z ∷ []) (sym is))
+    ∙ ap (hist sizes n0) (map-append (λ (z : Call). (z.actor, z.command)) (take i calls) (c ∷ []))
+    ∙ hist_more sizes n0 (asked (take i calls)) (c.actor, c.command)
+
+pub now_on : (n0 : Now) (calls : List Call) (i : ℕ) (c : Call) → i < length calls → c ≡ get_or calls i c
+    → now_at n0 calls (i + 1) ≡ entered_by (now_at n0 calls i) (entry_at (now_at n0 calls i) c)
+now_on n0 calls i c lt is = ap (now_after n0) (history_on n0 calls i c lt is) ∙ now_more n0 (history_to n0 calls i) (entry_at (now_at n0 calls i) c)
+
+rest_is : (calls : List Call) (i : ℕ) (c : Call) → i < length calls → c ≡ get_or calls i c → drop i calls ≡ c ∷ drop (i + 1) calls
+rest_is calls i c lt is = drop_more calls i c lt ∙ ap (λ (z : Call). z ∷ drop (i + 1) calls) (sym is)
+
+front_is : (calls : List Call) (i : ℕ) (c : Call) → i < length calls → c ≡ get_or calls i c → take (i + 1) calls ≡ take i calls ++ c ∷ []
+front_is calls i c lt is = take_more calls i c lt ∙ ap (λ (z : Call). take i calls ++ z ∷ []) (sym is)
+
+pub reached_start : (size : ℕ) (n0 : Now) (calls : List Call) (tree : Rows) (unsealed : ℕ) → Stands n0 tree 0 unsealed → Reached size n0 calls 0 tree 0 unsealed
+reached_start size n0 calls tree unsealed stands = record { stands = stands; made = refl; stop = refl; acknowledged = refl; few = omega arith }
+
+pub reached_on : (size : ℕ) (n0 : Now) (calls : List Call) (i : ℕ) (c : Call) (tree tree' : Rows) (seals unsealed seals' unsealed' : ℕ)
+    → i < length calls → c ≡ get_or calls i c → Reached size n0 calls i tree seals unsealed
+    → Performed size (now_at n0 calls i) c.actor c.command tree' seals' unsealed' → seals' ≤ seals + 1 → Reached size n0 calls (i + 1) tree' seals' unsealed'
+reached_on size n0 calls i c tree tree' seals unsealed seals' unsealed' lt is r p rises =
+    let n = now_at n0 calls i in
+    let e = entry_at n c in
+    let one : now_at n0 calls (i + 1) ≡ entered_by n e = now_on n0 calls i c lt is in
+    let go : made size n (drop i calls) ≡ c ∷ made size (entered_by n e) (drop (i + 1) calls) =
+    ap (made size n) (rest_is calls i c lt is) ∙ ap (λ (b : Bool). cond b [] (c ∷ made size (entered_by n e) (drop (i + 1) calls))) p.unblocked in
+    let halt : stopped size n (drop i calls) ≡ stopped size (entered_by n e) (drop (i + 1) calls) =
+    ap (stopped size n) (rest_is calls i c lt is) ∙ ap (λ (b : Bool). cond b (Some c.line) (stopped size (entered_by n e) (drop (i + 1) calls))) p.unblocked in
+    record {
+      stands = subst (λ (z : Now). Stands z tree' seals' unsealed') (sym one) p.stands;
+      made = r.made ∙ ap (λ (z : List Call). take i calls ++ z) go
+          ∙ sym (append_assoc (take i calls) (c ∷ []) (made size (entered_by n e) (drop (i + 1) calls)))
+          ∙ ap (λ (z : List Call). z ++ made size (entered_by n e) (drop (i + 1) calls)) (sym (front_is calls i c lt is))
+          ∙ ap (λ (z : Now). take (i + 1) calls ++ made size z (drop (i + 1) calls)) (sym one);
+      stop = r.stop ∙ halt ∙ ap (λ (z : Now). stopped size z (drop (i + 1) calls)) (sym one);
+      acknowledged = ap durable (history_on n0 calls i c lt is) ∙ durable_more (history_to n0 calls i) e
+          ∙ durable_on size n c.actor c.command (durable (history_to n0 calls i)) p.unblocked (r.acknowledged ∙ r.stands.seals)
+          ∙ sym p.stands.seals;
+      few = omega (arith, r.few, rises);
+    }
+
+-- ---- where a run ends
+
+-- at a call that is blocked
+pub blocked_made : (size : ℕ) (n0 : Now) (calls : List Call) (i : ℕ) (c : Call) (tree : Rows) (seals unsealed : ℕ) → i < length calls → c ≡ get_or calls i c
+    → Reached size n0 calls i tree seals unsealed → is_blocked size (now_at n0 calls i) c.actor c.command ≡ true → made size n0 calls ≡ take i calls
+blocked_made size n0 calls i c tree seals unsealed lt is r blocked =
+    let n = now_at n0 calls i in
+    r.made ∙ ap (λ (z : List Call). take i calls ++ z) (ap (made size n) (rest_is calls i c lt is)
+    ∙ ap (λ (b : Bool). cond b [] (c ∷ made size (entered_by n (entry_at n c)) (drop (i + 1) calls))) blocked) ∙ append-nil (take i calls)
+
+pub blocked_stop : (size : ℕ) (n0 : Now) (calls : List Call) (i : ℕ) (c : Call) (tree : Rows) (seals unsealed : ℕ) → i < length calls → c ≡ get_or calls i c
+    → Reached size n0 calls i tree seals unsealed → is_blocked size (now_at n0 calls i) c.actor c.command ≡ true → stopped size n0 calls ≡ Some c.line
+blocked_stop size n0 calls i c tree seals unsealed lt is r blocked =
+    let n = now_at n0 calls i in
+    r.stop ∙ ap (stopped size n) (rest_is calls i c lt is)
+    ∙ ap (λ (b : Bool). cond b (Some c.line) (stopped size (entered_by n (entry_at n c)) (drop (i + 1) calls))) blocked
+
+-- at the end of the calls
+pub all_made : (size : ℕ) (n0 : Now) (calls : List Call) (i : ℕ) (tree : Rows) (seals unsealed : ℕ) → length calls ≤ i → Reached size n0 calls i tree seals unsealed
+    → made size n0 calls ≡ take i calls
+all_made size n0 calls i tree seals unsealed le r =
+    r.made ∙ ap (λ (z : List Call). take i calls ++ made size (now_at n0 calls i) z) (drop_all i calls le) ∙ append-nil (take i calls)
+
+pub none_stopped : (size : ℕ) (n0 : Now) (calls : List Call) (i : ℕ) (tree : Rows) (seals unsealed : ℕ) → length calls ≤ i → Reached size n0 calls i tree seals unsealed
+    → stopped size n0 calls ≡ None
+none_stopped size n0 calls i tree seals unsealed le r = r.stop ∙ ap (stopped size (now_at n0 calls i)) (drop_all i calls le)
+
+-- ---- the reply lines
+
+pub lines_more : (h : List Entry) (e : Entry) → joined (reply_lines (h ++ e ∷ [])) ≡ joined (reply_lines h) ++ line_of e
+lines_more [] e = append-nil (line_of e)
+lines_more (d ∷ h) e = ap (λ (z : List ℕ). line_of d ++ z) (lines_more h e) ∙ sym (append_assoc (line_of d) (joined (reply_lines h)) (line_of e))
+
+-- the reply lines so far stand first among all
+pub lines_first : (size : ℕ) (n0 : Now) (calls : List Call) (i : ℕ) (tree : Rows) (seals unsealed : ℕ) → Reached size n0 calls i tree seals unsealed
+    → (g : List (List ℕ)) × (reply_lines (history n0 (made size n0 calls)) ≡ reply_lines (history_to n0 calls i) ++ g)
+lines_first size n0 calls i tree seals unsealed r =
+    let n = now_at n0 calls i in
+    let rest = made size n (drop i calls) in (
+      reply_lines (history n rest),
+      ap (λ (z : List Call). reply_lines (history n0 z)) r.made
+          ∙ ap (λ (z : List (ℕ × Command)). reply_lines (hist sizes n0 z)) (map-append (λ (z : Call). (z.actor, z.command)) (take i calls) rest)
+          ∙ ap reply_lines (hist_append sizes n0 (asked (take i calls)) (asked rest))
+          ∙ map-append line_of (history_to n0 calls i) (history n rest),
+    )

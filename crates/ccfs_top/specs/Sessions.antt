@@ -1,0 +1,69 @@
+-- What a session keeps of what its history left, and what its disk shows.
+use Rattle.std.specs.Prelude.{◌≡◌, ℕ, ◌+◌, ◌≤◌, Bool, true, false, List, length}
+use Rattle.std.specs.List.{AllByRecursion}
+use Rattle.std.specs.declared.option.Option.TheVariants.{Some}
+use Rattle.std.specs.FinMap.{len}
+use Rattle.ccfs_base.specs.declared.commands.Command.{Command}
+use Rattle.ccfs_base.specs.declared.commands.Command.TheVariants.{Mkdir, Create}
+use Rattle.ccfs_base.specs.declared.replies.Reply.{Reply}
+use Rattle.tree_model.specs.declared.rows.Update.{Update}
+use Rattle.tree_model.specs.declared.rows.Update.TheVariants.{Make}
+use Rattle.tree_model.specs.declared.picturing.Item.{Item}
+use Rattle.tree_model.specs.Rows.{Rows}
+use Rattle.history_model.specs.Answers.{Now}
+use Rattle.history_model.specs.Histories.{entered_by, entry_of}
+use Rattle.plain_image.specs.Plain.{plain_of}
+use Rattle.ccfs_top.specs.Made.{IsMade}
+use Rattle.ccfs_top.specs.Runs.{further}
+use Rattle.ccfs_top.specs.Stages.{sizes, is_blocked}
+
+-- a session with this tree, this many seals and this many unsealed updates, where the history left n
+pub record Stands (n : Now) (t : Rows) (sealed waiting : ℕ) : Type 0 where
+  pub tree : t ≡ n.tree
+  pub seals : sealed ≡ n.seals
+  pub unsealed : waiting ≡ length n.unsealed
+  pub few : waiting ≤ 512
+  pub one_stream : AllByRecursion (λ (e : ℕ × Update). e.0 ≡ 0) n.unsealed
+  pub next : n.next ≡ len n.tree
+  pub made : IsMade n.tree
+
+-- the serial of the row that an update makes
+abbrev pub serial_of : Update → ℕ
+serial_of (Make dir name id is_dir) = id
+
+-- its name
+abbrev pub name_of : Update → List ℕ
+name_of (Make dir name id is_dir) = name
+
+-- mkdir (true) or create (false)
+abbrev pub make_command : Bool → List (List ℕ) → Command
+make_command true path = Mkdir path
+make_command false path = Create path
+
+-- a call that was answered so where the history left n: it wasn't blocked, the reply is that of its entry, and the session
+-- stands as the entry leaves it
+pub record Answered (size : ℕ) (n : Now) (actor : ℕ) (command : Command) (answered : Reply) (t : Rows) (sealed waiting : ℕ) : Type 0 where
+  pub unblocked : is_blocked size n actor command ≡ false
+  pub reply : answered ≡ (entry_of sizes n actor command).reply
+  pub stands : Stands (entered_by n (entry_of sizes n actor command)) t sealed waiting
+
+-- the same, whatever was answered
+pub record Performed (size : ℕ) (n : Now) (actor : ℕ) (command : Command) (t : Rows) (sealed waiting : ℕ) : Type 0 where
+  pub unblocked : is_blocked size n actor command ≡ false
+  pub stands : Stands (entered_by n (entry_of sizes n actor command)) t sealed waiting
+
+-- the contents spell this number and this picture, and no write that failed may still change them
+pub record Shows (in_doubt : Bool) (seen : List ℕ) (number : ℕ) (picture : List Item) : Type 0 where
+  pub settled : in_doubt ≡ false
+  pub spelled : plain_of seen ≡ Some (number, picture)
+
+-- nothing was sealed: the number and the disk are as before
+pub record IsQuiet {D : Type 0} (before now : ℕ) (old new : D) : Type 0 where
+  pub number : now ≡ before
+  pub disk : new ≡ old
+
+-- one seal more: the number is one further, and nothing is left unsealed
+pub record IsSealed (before now sealed sealed' waiting : ℕ) : Type 0 where
+  pub number : now ≡ further before 1
+  pub seals : sealed' ≡ sealed + 1
+  pub unsealed : waiting ≡ 0

@@ -1,0 +1,28 @@
+-- What isn't built yet: the calls that end a run with `line N not built`.
+use Rattle.std.specs.Prelude.{ℕ, Bool, true, false, ◌&&◌, ltb, length}
+use Rattle.std.specs.declared.option.Option.{Option}
+use Rattle.std.specs.declared.option.Option.TheVariants.{None, Some}
+use Rattle.stream_cuts.specs.Forced.{is_open}
+use Rattle.ccfs_base.specs.declared.commands.Command.{Command}
+use Rattle.ccfs_base.specs.declared.commands.Command.TheVariants.{Mkdir, Create, StreamSync}
+use Rattle.tree_model.specs.declared.rows.Update.{Update}
+use Rattle.tree_model.specs.Picture.{picture}
+use Rattle.history_model.specs.Answers.{Sizes, Now, answer, stream_of, seals_own}
+use Rattle.plain_image.specs.Plain.{plain_bytes}
+
+-- the inodes that answers count with until images have inodes of their own
+abbrev pub sizes : Sizes
+sizes = record { inodes = 8192 }
+
+-- whether an accepted update would seal its own stream first: the 513th row that is made since the last sync
+abbrev pub forces_a_seal : Now → ℕ → Option Update → Bool
+forces_a_seal n s None = false
+forces_a_seal n s (Some u) = seals_own n s u
+
+-- whether a call on a disk of that many bytes isn't built: an update that would seal first, a sync of something unsealed
+-- whose picture doesn't fit the disk, and every other command
+abbrev pub is_blocked : ℕ → Now → ℕ → Command → Bool
+is_blocked size n actor (Mkdir path) = forces_a_seal n (stream_of n actor) (answer sizes n actor (Mkdir path)).1
+is_blocked size n actor (Create path) = forces_a_seal n (stream_of n actor) (answer sizes n actor (Create path)).1
+is_blocked size n actor StreamSync = is_open n.unsealed (stream_of n actor) && ltb size (length (plain_bytes 0 (picture n.tree)))
+is_blocked size n actor c = true

@@ -1,0 +1,6 @@
+pub mod Record
+pub mod Elapsed
+pub mod Crash
+pub mod Still
+pub mod Runs
+pub mod Places

@@ -1,0 +1,10 @@
+pub mod Bytes
+pub mod Moments
+pub mod Calls
+pub mod History
+pub mod HistoryView
+pub mod Past
+pub mod Told
+pub mod Plan
+pub mod Counts
+pub mod Memory

@@ -1,0 +1,15 @@
+pub mod Counts
+pub mod Closedness
+pub mod KeptFirst
+pub mod Closed
+pub mod Longer
+pub mod Sealed
+pub mod Unsealed
+pub mod AllKept
+pub mod Forcing
+pub mod Batches
+pub mod Amounts
+pub mod Next
+pub mod OfSeal
+pub mod Laws
+pub mod Examples

@@ -1,0 +1,5 @@
+pub mod MapView
+pub mod Index
+pub mod Stays
+pub mod Showing
+pub mod Found

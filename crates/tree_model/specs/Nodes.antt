@@ -1,0 +1,61 @@
+-- Rows with their entries beside them: how a tree is kept.
+use Rattle.std.specs.Prelude.{◌≡◌, ℕ, ◌^◌, ◌<◌, List, map}
+use Rattle.std.specs.declared.option.Option.{Option}
+use Rattle.std.specs.declared.option.Option.TheVariants.{None, Some}
+use Rattle.std.specs.Ordering.{nat_cmp}
+use Rattle.std.specs.FinMap.{FinMap, get, insert, empty, entries, from_entries, len}
+use Rattle.tree_model.specs.declared.rows.Row.{Row}
+use Rattle.tree_model.specs.Rows.{Rows}
+use Rattle.tree_model.specs.Entries.{Index, entries_of}
+use Rattle.tree_model.specs.Updates.{counted, recounted}
+
+-- a row, and its entries by name
+abbrev pub Kept : Type 0
+Kept = Row × Index
+
+-- the entries that such a list holds
+abbrev pub index_of : List (List ℕ × ℕ) → Index
+index_of es = from_entries es
+
+-- such rows by their serials
+abbrev pub KeptRows : Type 0
+KeptRows = FinMap nat_cmp Kept
+
+-- a row whose count of changes, if it is a directory's, grew by 1
+abbrev pub counted_row : Row → Row
+counted_row r = record r { body = counted r.body }
+
+-- a row whose count of changes, if it is a directory's, is this one
+abbrev pub recounted_row : ℕ → Row → Row
+recounted_row n r = record r { body = recounted n r.body }
+
+-- with the count of changes as it is told
+abbrev pub told : ℕ → Kept → Kept
+told n k = (recounted_row n k.0, k.1)
+
+-- with one entry more, and the change counted
+abbrev pub entered : List ℕ → ℕ → Kept → Kept
+entered name id k = (counted_row k.0, insert k.1 name id)
+
+-- what f makes of the row at x; without such a row all stays
+abbrev pub put_at : (Kept → Kept) → KeptRows → ℕ → Option Kept → KeptRows
+put_at f m x None = m
+put_at f m x (Some k) = insert m x (f k)
+
+-- the same at the serial x, where no row may be
+abbrev pub on_node : (Kept → Kept) → KeptRows → ℕ → KeptRows
+on_node f m x = put_at f m x (get m x)
+
+-- the rows alone
+abbrev pub rows_in : KeptRows → Rows
+rows_in m = from_entries (map (λ e. (e.0, e.1.0)) (entries m))
+
+-- the entries that are kept at a serial: none where there is no row
+abbrev pub index_in : Option Kept → Index
+index_in None = empty
+index_in (Some k) = k.1
+
+-- what is kept beside the rows are their entries, and there are fewer than 2^32 rows
+pub record IsKept (m : KeptRows) : Type 0 where
+  pub indexed : (d : ℕ) → index_in (get m d) ≡ entries_of (rows_in m) d
+  pub few : len m < 2 ^ 32
