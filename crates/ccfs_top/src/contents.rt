@@ -1,4 +1,4 @@
-// The contents of a disk, read whole.
+//! The contents of a disk, read whole.
 ghost use Rattle.std.specs.Prelude.{◌≡◌, ◌≤◌, ℕ, List, false, None, Some, IfOk, OnOk, IsErrOf};
 ghost use Rattle.fault_counts.specs.Counts.{Rose};
 ghost use Rattle.plain_image.specs.Plain.{AreBare, plain_of};

@@ -1,4 +1,4 @@
-// How the top call ends.
+//! How the top call ends.
 
 /// How a call of the top ended. It hands the disk back.
 #[derive(Drop)]

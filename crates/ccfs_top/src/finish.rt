@@ -1,4 +1,4 @@
-// A run over a disk, from its opening to the tree text.
+//! A run over a disk, from its opening to the tree text.
 ghost use Rattle.std.specs.Prelude.{◌≡◌, ◌⊎◌, ◌≤◌, ◌++◌, ℕ, List, IfOk, IfErr, OnOk, OnErr, IsErrOf, length};
 ghost use Rattle.fault_counts.specs.Counts.{Rose};
 ghost use Rattle.tree_model.specs.declared.picturing.Item.{Item};

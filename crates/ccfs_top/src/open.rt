@@ -1,4 +1,4 @@
-// A disk is opened.
+//! A disk is opened.
 ghost use Rattle.std.specs.Prelude.{◌≡◌, ◌≤◌, ℕ, List, false, length, None, Some, IfOk, IfErr, IsErrOf};
 ghost use Rattle.fault_counts.specs.Counts.{Rose};
 ghost use Rattle.tree_model.specs.Picture.{picture};

@@ -1,4 +1,4 @@
-// The calls of a script, one after another.
+//! The calls of a script, one after another.
 ghost use Rattle.std.specs.Prelude.{◌≡◌, ◌≢◌, ◌≤◌, ◌<◌, ◌+◌, ◌-◌, ◌^◌, ◌++◌, ℕ, List, [], true, false, length, take, OnOk, OnErr, IsErr, IsErrOf, None, Some};
 ghost use Rattle.fault_counts.specs.Counts.{Rose};
 ghost use Rattle.tree_model.specs.Picture.{picture};

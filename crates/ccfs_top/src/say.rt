@@ -1,4 +1,4 @@
-// Lines that end a run.
+//! Lines that end a run.
 ghost use Rattle.std.specs.Prelude.{◌≡◌, ◌≤◌, ◌++◌, List, ℕ};
 ghost use Rattle.fault_counts.specs.Counts.{Rose};
 ghost use Rattle.ccfs_top.specs.Ends.{IsSaid};

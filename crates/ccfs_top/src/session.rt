@@ -1,4 +1,4 @@
-// A file system in use: the tree, and the disk that holds the picture of what is durable.
+//! A file system in use: the tree, and the disk that holds the picture of what is durable.
 ghost use Rattle.std.specs.Prelude.{◌≡◌, ◌≢◌, ◌≤◌, ◌<◌, ◌+◌, ◌-◌, ◌^◌, ◌++◌, ℕ, List, true, false, IsTrue, length, IfOk, IfErr, OnOk, IsErrOf, IsErr, Ok, Err, None, Some};
 ghost use Rattle.std.specs.FinMap.{len};
 ghost use Rattle.fault_counts.specs.Counts.{Rose};

@@ -1,4 +1,4 @@
-// Why a run stops before its end, and the line that says so.
+//! Why a run stops before its end, and the line that says so.
 ghost use Rattle.std.specs.Prelude.{◌≡◌, ◌⊎◌, ◌≤◌, ◌++◌, List, ℕ};
 ghost use Rattle.fault_counts.specs.Counts.{Rose};
 ghost use Rattle.ccfs_top.specs.Ends.{IsSaid};

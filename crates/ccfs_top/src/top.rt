@@ -1,4 +1,4 @@
-// The top call.
+//! The top call.
 ghost use Rattle.std.specs.Prelude.{◌≡◌, ◌⊎◌, ◌≤◌, ◌↔◌, ◌++◌, ℕ, List, true, false, length, Err, IsErr, IfOk, IfErr};
 ghost use Rattle.fault_counts.specs.Counts.{Rose};
 ghost use Rattle.script_text.specs.Scripts.{calls_of};
