@@ -73,7 +73,7 @@ fn run_script<D: Disk, S: Source, K: Sink>(
 /// always returns.
 ///
 /// The words are the program's name and then `run IMAGE SCRIPT`. The disk has no call before the script was read and
-/// parsed whole.
+/// parsed whole, and other words leave the script unread.
 pub fn shell<D: Disk, S: Source, K: Sink>(
     alloc: Global,
     words: &[String],
@@ -87,12 +87,15 @@ pub fn shell<D: Disk, S: Source, K: Sink>(
     ensures ended { S.tells → D.tells → (found : List ℕ) × IsFound (D.may_leave disk) (D.in_doubt disk) (D.seen disk) found
         × EndsWith (expected (is_run words.now) (S.left script.old) found) result.status result.batches
         × (K.tells → Wrote (expected (is_run words.now) (S.left script.old) found) (Rose (K.faults out.old) (K.faults out.new)) result.status (K.held out.old) (K.held out.new)) }
+    // A batch number comes with status 0 alone.
+    ensures no_batches { (result.status ≡ 0 → ⊥) → result.batches ≡ 0 }
     // The causes of the faults.
     ensures source_fault { result.status ≡ 5 → Rose (S.faults script.old) (S.faults script.new) }
     ensures sink_fault { result.status ≡ 6 → Rose (K.faults out.old) (K.faults out.new) }
     ensures disk_fault { result.status ≡ 7 → Rose (D.faults disk) (D.faults result.disk) }
     // Until the script is known to be one, the disk has no call.
     ensures usage_untouched { result.status ≡ 2 → result.disk ≡ disk }
+    ensures usage_unread { result.status ≡ 2 → script.new ≡ script.old }
     ensures long_untouched { result.status ≡ 4 → result.disk ≡ disk }
     ensures source_untouched { result.status ≡ 5 → result.disk ≡ disk }
     ensures unparsed_untouched { S.tells → (line : ℕ) → calls_of (S.left script.old) ≡ Err line → result.disk ≡ disk }
