@@ -2,3 +2,4 @@ pub mod Kept
 pub mod Spelling
 pub mod Parsing
 pub mod Written
+pub mod Putting

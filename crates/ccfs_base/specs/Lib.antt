@@ -4,3 +4,5 @@ pub mod Paths
 pub mod Parsed
 pub mod Memory
 pub mod Fits
+pub mod Contents
+pub mod Limits

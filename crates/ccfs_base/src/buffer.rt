@@ -1,5 +1,6 @@
 //! Byte strings of one's own.
-ghost use Rattle.std.specs.Prelude.{◌≡◌, ◌==◌, List, [], ◌∷◌, ◌++◌, length, IfOk, OnOk, OnErr};
+ghost use Rattle.std.specs.Prelude.{◌≡◌, ◌==◌, ◌+◌, ◌<◌, ◌^◌, List, [], ◌∷◌, ◌++◌, length, IfOk, OnOk, OnErr};
+ghost use Rattle.ccfs_base.specs.Contents.{resized, written};
 
 use super::NoMemory;
 use std::alloc::Global;
@@ -53,6 +54,28 @@ impl Bytes {
         ensures err { OnErr result (self.new ≡ self.old) }
     {
         self.kept.extend_from_slice(bytes)
+    }
+
+    /// Cuts it to this length in bytes, or fills it up with zeros. Without memory all is as before.
+    pub fn resize(&mut self, len: usize) -> Result<(), NoMemory>
+        ensures ok { OnOk result (self.new ≡ resized len self.old) }
+        ensures err { OnErr result (self.new ≡ self.old) }
+    {
+        self.kept.resize(len, 0)
+    }
+
+    /// Puts bytes at a place, over what stands there, and zeros in a gap before them. Without memory all is as before.
+    pub fn write_at(&mut self, off: usize, bytes: &[u8]) -> Result<(), NoMemory>
+        requires { off + length bytes.now < 2 ^ 64 }
+        ensures ok { OnOk result (self.new ≡ written off bytes.now self.old) }
+        ensures err { OnErr result (self.new ≡ self.old) }
+    {
+        let end = off + bytes.len();
+        if self.kept.len() < end {
+            self.kept.resize(end, 0)?;
+        }
+        self.kept[off..end].copy_from_slice(bytes);
+        Ok(())
     }
 
     /// All of its bytes.

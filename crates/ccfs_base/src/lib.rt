@@ -8,6 +8,7 @@
 pub mod buffer;
 pub mod commands;
 pub mod edges;
+pub mod limits;
 pub mod memory;
 pub mod naming;
 pub mod paths;
@@ -17,6 +18,7 @@ pub mod replies;
 pub use buffer::Bytes;
 pub use commands::Command;
 pub use edges::{Sink, SinkFailed, Source, SourceFailed, write_all};
+pub use limits::{FILE_MAX, TXN_LIMIT, blocks};
 pub use memory::{MemSink, MemSource};
 pub use naming::{Name, NameFault};
 pub use paths::{Path, PathFault, PathNames};

@@ -92,3 +92,25 @@ fn commands_and_replies_are_copied(rt: HostRuntime) -> Result<(), Fail> {
     assert!(rt; matches!(listed.copy()?, Reply::Listed { .. }));
     Ok(())
 }
+
+#[test]
+fn a_file_of_more_than_24_pages_takes_a_block_for_pointers(rt: HostRuntime) {
+    assert_eq!(rt; blocks(0), 0);
+    assert_eq!(rt; blocks(1), 1);
+    assert_eq!(rt; blocks(98_304), 24);
+    assert_eq!(rt; blocks(98_305), 26);
+    assert_eq!(rt; blocks(FILE_MAX), 1049);
+}
+
+#[test]
+fn a_gap_is_filled_with_zeros_and_a_cut_forgets_the_tail(rt: HostRuntime) -> Result<(), Fail> {
+    let mut bytes = Bytes::of(rt.alloc(), b"abc")?;
+    bytes.write_at(1, b"X")?;
+    assert_eq!(rt; bytes.all(), b"aXc".as_slice());
+    bytes.resize(1)?;
+    bytes.write_at(3, b"Y")?;
+    assert_eq!(rt; bytes.all(), b"a\0\0Y".as_slice());
+    bytes.resize(5)?;
+    assert_eq!(rt; bytes.all(), b"a\0\0Y\0".as_slice());
+    Ok(())
+}

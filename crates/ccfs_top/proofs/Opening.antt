@@ -21,7 +21,8 @@ use Rattle.tree_model.specs.declared.picturing.ItemKind.TheVariants.{Dir, File}
 use Rattle.tree_model.specs.Rows.{Rows, is_dir_at, alone}
 use Rattle.tree_model.specs.Entries.{children}
 use Rattle.tree_model.specs.Picture.{head, items, picture}
-use Rattle.tree_model.specs.Updates.{recounted as recounted_body, change, Recount, store, apply, applies}
+use Rattle.tree_model.specs.Updates.{recounted as recounted_body, on_body, store, apply}
+use Rattle.tree_model.specs.Tests.{applies}
 use Rattle.ccfs_base.specs.Names.{is_name}
 use Rattle.script_text.specs.Texts.{has_data_text}
 use Rattle.script_text.specs.Trees.{is_item_printed}
@@ -355,7 +356,7 @@ bare_recounted : (n : ℕ) (b : Body) → IsBareBody b → IsBareBody (recounted
 bare_recounted n (body.Dir changes) is = tt
 bare_recounted n (body.File bytes) is = is
 
-stored : (t : Rows) (x n : ℕ) (o : Option Row) → IsMade t → get t x ≡ o → IsMade (store t x (change (Recount n) o))
+stored : (t : Rows) (x n : ℕ) (o : Option Row) → IsMade t → get t x ≡ o → IsMade (store t x (on_body (recounted_body n) o))
 stored t x n None made is = subst IsMade (taken_none t x is) made
 stored t x n (Some r) made is = replaced t x r (record r { body = recounted_body n r.body }) made is refl refl (bare_recounted n r.body (made.bare x r is))
 

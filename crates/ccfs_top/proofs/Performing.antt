@@ -17,12 +17,13 @@ use Rattle.ccfs_base.specs.declared.replies.Reply.TheVariants.{Done, Refused, Sy
 use Rattle.ccfs_base.specs.Names.{is_name, is_path}
 use Rattle.std.specs.List.{list_all}
 use Rattle.tree_model.specs.declared.rows.Update.{Update}
-use Rattle.tree_model.specs.declared.rows.Update.TheVariants.{Make}
+use Rattle.tree_model.specs.declared.rows.Update.TheVariants.{Make, Write, Resize, Remove, Move, Release}
 use Rattle.tree_model.specs.declared.rows.Entry.{Entry}
 use Rattle.tree_model.specs.declared.picturing.Item.{Item}
 use Rattle.tree_model.specs.Rows.{Rows, is_dir_at}
 use Rattle.tree_model.specs.Entries.{entry}
-use Rattle.tree_model.specs.Updates.{apply, applies}
+use Rattle.tree_model.specs.Updates.{apply}
+use Rattle.tree_model.specs.Tests.{applies}
 use Rattle.tree_model.specs.Walk.{from_there, only_dir, walk, front_of, last_of, parent_walk}
 use Rattle.tree_model.specs.Picture.{picture}
 use Rattle.history_model.specs.Answers.{Now, Answer, make, in_directory, refused, does, no_inode, is_root, entry_steps, closing, closes, seals_own}
@@ -167,6 +168,11 @@ stands_made n t t' s w a c (Make d name x b) stands few serial spelled fits made
     first : (a b : Bool) → IsTrue (a && b) → IsTrue a
     first true b is = refl
     first false b is = absurd (cc is)
+stands_made n t t' s w a c (Write id off bytes) stands few serial spelled fits made = absurd (cc spelled)
+stands_made n t t' s w a c (Resize id size) stands few serial spelled fits made = absurd (cc spelled)
+stands_made n t t' s w a c (Remove dir name id stays) stands few serial spelled fits made = absurd (cc spelled)
+stands_made n t t' s w a c (Move dir name to_dir to_name id is_dir replaced stays) stands few serial spelled fits made = absurd (cc spelled)
+stands_made n t t' s w a c (Release id) stands few serial spelled fits made = absurd (cc spelled)
 
 pub performed_made : (n : Now) (t t' : Rows) (size s w a : ℕ) (b : Bool) (path : List (List ℕ)) (u : Update) → make sizes n b path ≡ (Done, Some u) → Stands n t s w → w < 512
     → serial_of u ≡ len t → is_name (name_of u) ≡ true → IsTrue (applies t u) → t' ≡ apply t u → Answered size n a (make_command b path) Done t' s (w + 1)

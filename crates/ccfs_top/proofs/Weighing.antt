@@ -6,14 +6,14 @@ use Rattle.std.proofs.lemmas.Bool.Decides.{nat_tests}
 use Rattle.stream_cuts.specs.Streams.{without, keep_if}
 use Rattle.stream_cuts.specs.Forced.{is_open}
 use Rattle.tree_model.specs.declared.rows.Update.{Update}
-use Rattle.tree_model.specs.declared.rows.Update.TheVariants.{Make}
-use Rattle.history_model.specs.Answers.{Now, weight, weight_of, transaction_limit, seals_own}
+use Rattle.history_model.specs.Answers.{Now, weight, weight_of, seals_own}
+use Rattle.ccfs_base.specs.Limits.{transaction_limit}
 
 abbrev pub OfOne : List (ℕ × Update) → Type 0
 OfOne l = AllByRecursion (λ (e : ℕ × Update). e.0 ≡ 0) l
 
 weight_is : (u : Update) → weight u ≡ 512
-weight_is (Make d name x b) = refl
+weight_is u = refl
 
 here : (e : ℕ × Update) → e.0 ≡ 0 → eqb e.0 0 ≡ true
 here e is = eq-eqb e.0 0 is

@@ -1,5 +1,5 @@
 -- What a session keeps of what its history left, and what its disk shows.
-use Rattle.std.specs.Prelude.{◌≡◌, ℕ, ◌+◌, ◌≤◌, Bool, true, false, List, length}
+use Rattle.std.specs.Prelude.{◌≡◌, ℕ, ◌+◌, ◌≤◌, Bool, true, false, List, [], length}
 use Rattle.std.specs.List.{AllByRecursion}
 use Rattle.std.specs.declared.option.Option.TheVariants.{Some}
 use Rattle.std.specs.FinMap.{len}
@@ -7,7 +7,7 @@ use Rattle.ccfs_base.specs.declared.commands.Command.{Command}
 use Rattle.ccfs_base.specs.declared.commands.Command.TheVariants.{Mkdir, Create}
 use Rattle.ccfs_base.specs.declared.replies.Reply.{Reply}
 use Rattle.tree_model.specs.declared.rows.Update.{Update}
-use Rattle.tree_model.specs.declared.rows.Update.TheVariants.{Make}
+use Rattle.tree_model.specs.declared.rows.Update.TheVariants.{Make, Write, Resize, Remove, Move, Release}
 use Rattle.tree_model.specs.declared.picturing.Item.{Item}
 use Rattle.tree_model.specs.Rows.{Rows}
 use Rattle.history_model.specs.Answers.{Now}
@@ -27,13 +27,23 @@ pub record Stands (n : Now) (t : Rows) (sealed waiting : ℕ) : Type 0 where
   pub next : n.next ≡ len n.tree
   pub made : IsMade n.tree
 
--- the serial of the row that an update makes
+-- the serial of the row that an update makes; 0, the root's, of one that makes none
 abbrev pub serial_of : Update → ℕ
 serial_of (Make dir name id is_dir) = id
+serial_of (Write id off bytes) = 0
+serial_of (Resize id len) = 0
+serial_of (Remove dir name id stays) = 0
+serial_of (Move dir name to_dir to_name id is_dir replaced stays) = 0
+serial_of (Release id) = 0
 
--- its name
+-- its name; the empty one, which is no name, of one that makes none
 abbrev pub name_of : Update → List ℕ
 name_of (Make dir name id is_dir) = name
+name_of (Write id off bytes) = []
+name_of (Resize id len) = []
+name_of (Remove dir name id stays) = []
+name_of (Move dir name to_dir to_name id is_dir replaced stays) = []
+name_of (Release id) = []
 
 -- mkdir (true) or create (false)
 abbrev pub make_command : Bool → List (List ℕ) → Command

@@ -2,7 +2,8 @@
 ghost use Rattle.std.specs.Prelude.{◌≡◌, ◌≢◌, ◌≤◌, ◌<◌, ◌+◌, ◌-◌, ◌^◌, ◌++◌, ℕ, List, true, false, IsTrue, length, IfOk, IfErr, OnOk, IsErrOf, IsErr, Ok, Err, None, Some};
 ghost use Rattle.std.specs.FinMap.{len};
 ghost use Rattle.fault_counts.specs.Counts.{Rose};
-ghost use Rattle.tree_model.specs.Updates.{applies, apply};
+ghost use Rattle.tree_model.specs.Updates.{apply};
+ghost use Rattle.tree_model.specs.Tests.{applies};
 ghost use Rattle.tree_model.specs.Picture.{picture};
 ghost use Rattle.history_model.specs.Answers.{Now, make};
 ghost use Rattle.plain_image.specs.Plain.{plain_bytes, plain_of};

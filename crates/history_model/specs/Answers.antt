@@ -8,6 +8,7 @@ use Rattle.std.specs.declared.result.Result.TheVariants.{Ok, Err}
 use Rattle.std.specs.FinMap.{len}
 use Rattle.stream_cuts.specs.Streams.{Step, Enter, Seal}
 use Rattle.stream_cuts.specs.Forced.{is_open}
+use Rattle.ccfs_base.specs.Limits.{transaction_limit}
 use Rattle.ccfs_base.specs.declared.commands.Command.{Command}
 use Rattle.ccfs_base.specs.declared.commands.Command.TheVariants as command
 use Rattle.ccfs_base.specs.declared.replies.Refusal.{Refusal}
@@ -39,13 +40,10 @@ pub record Now : Type 0 where
 abbrev pub stream_of : Now → ℕ → ℕ
 stream_of n actor = 0
 
--- the weight of an update, in bytes: a made row weighs 512
+-- the weight of an update, in bytes. Each update that a built command makes puts in a row, and weighs 512; any other weighs
+-- at least as much
 abbrev pub weight : Update → ℕ
-weight (Make dir name id is_dir) = 512
-
--- the weight at which a running transaction is full, in bytes: 256 KiB, which are 512 made rows
-abbrev pub transaction_limit : ℕ
-transaction_limit = 262144
+weight u = 512
 
 -- the weight of the unsealed updates of a stream
 abbrev pub weight_of : ℕ → List (ℕ × Update) → ℕ

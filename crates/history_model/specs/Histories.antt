@@ -10,7 +10,7 @@ use Rattle.ccfs_base.specs.declared.commands.Command.{Command}
 use Rattle.ccfs_base.specs.declared.replies.Reply.{Reply}
 use Rattle.ccfs_base.specs.declared.replies.Reply.TheVariants as reply
 use Rattle.tree_model.specs.declared.rows.Update.{Update}
-use Rattle.tree_model.specs.declared.rows.Update.TheVariants.{Make}
+use Rattle.tree_model.specs.declared.rows.Update.TheVariants.{Make, Write, Resize, Remove, Move, Release}
 use Rattle.tree_model.specs.declared.rows.Entry.{Entry}
 use Rattle.tree_model.specs.Rows.{Rows}
 use Rattle.tree_model.specs.Updates.{apply}
@@ -20,9 +20,18 @@ use Rattle.history_model.specs.Answers.{Sizes, Now, answer, stream_of, entry_ste
 abbrev pub start : Rows → Now
 start t = record { tree = t; unsealed = []; next = len t; seals = 0 }
 
+-- how many rows an update puts in
+abbrev pub makes : Update → ℕ
+makes (Make dir name id is_dir) = 1
+makes (Write id off bytes) = 0
+makes (Resize id len) = 0
+makes (Remove dir name id stays) = 0
+makes (Move dir name to_dir to_name id is_dir replaced stays) = 0
+makes (Release id) = 0
+
 abbrev pub made_by : Option Update → ℕ
 made_by None = 0
-made_by (Some (Make dir name id is_dir)) = 1
+made_by (Some u) = makes u
 
 abbrev pub tree_by : Rows → Option Update → Rows
 tree_by t None = t

@@ -1,13 +1,13 @@
 -- The tree that plain contents open to.
 use Rattle.std.specs.Prelude.{ℕ, ◌+◌, ◌-◌, Bool, true, false, cond, ◌&&◌, ◌==◌, Option, Some, None, List, [], ◌∷◌, ◌++◌, take, drop, slice_get}
 use Rattle.std.specs.Cmp.Lexicographic.{pointwise}
-use Rattle.std.specs.FinMap.{get}
 use Rattle.tree_model.specs.declared.rows.Update.TheVariants.{Make}
 use Rattle.tree_model.specs.declared.picturing.Item.{Item}
 use Rattle.tree_model.specs.declared.picturing.ItemKind.{ItemKind}
 use Rattle.tree_model.specs.declared.picturing.ItemKind.TheVariants.{Dir, File}
 use Rattle.tree_model.specs.Rows.{Rows, alone}
-use Rattle.tree_model.specs.Updates.{Recount, change, store, apply, applies}
+use Rattle.tree_model.specs.Updates.{recount, apply}
+use Rattle.tree_model.specs.Tests.{applies}
 use Rattle.tree_model.specs.Picture.{picture}
 use Rattle.plain_image.specs.Plain.{plain_of}
 
@@ -40,7 +40,7 @@ rows_made t id way (i ∷ is) = if_made (λ made. rows_made made (id + 1) (take 
 
 -- the tree with a directory's count of changes as the item shows it
 abbrev pub recounted : Rows → ℕ → ItemKind → Rows
-recounted t id (Dir entries changes) = store t id (change (Recount changes) (get t id))
+recounted t id (Dir entries changes) = recount t id changes
 recounted t id (File bytes) = t
 
 -- the same for the rows of items, the first with this serial

@@ -7,11 +7,11 @@ use Rattle.stream_cuts.specs.Streams.{Step, Enter, Seal, keep_if, entered, witho
 use Rattle.stream_cuts.specs.Forced.{streams, Numbered, is_open, is_forced, sealed_before, entering, sealing}
 use Rattle.stream_cuts.proofs.Closedness.{All_both}
 
-abbrev Among : ℕ → List ℕ → Type 0
+abbrev pub Among : ℕ → List ℕ → Type 0
 Among r [] = ⊥
 Among r (q ∷ qs) = (q ≡ r) ⊎ Among r qs
 
-among_filter : (test : ℕ → Bool) (r : ℕ) (qs : List ℕ) → test r ≡ true → Among r qs → Among r (filter test qs)
+pub among_filter : (test : ℕ → Bool) (r : ℕ) (qs : List ℕ) → test r ≡ true → Among r qs → Among r (filter test qs)
 among_filter test r (q ∷ qs) p (inl e) = subst (λ b. Among r (cond b (q ∷ filter test qs) (filter test qs))) (sym (ap test e ∙ p)) (inl e)
 among_filter test r (q ∷ qs) p (inr i) = let rest = among_filter test r qs p i in
     elim (test q) as (λ b. Among r (cond b (q ∷ filter test qs) (filter test qs))) [ true ↦ inr rest | false ↦ rest ]
@@ -22,7 +22,7 @@ among_append r [] ps i = absurd i
 among_append r (q ∷ qs) ps (inl e) = inl e
 among_append r (q ∷ qs) ps (inr i) = inr (among_append r qs ps i)
 
-among_range : (n a r : ℕ) → a ≤ r → r < a + n → Among r (range_with_len a n)
+pub among_range : (n a r : ℕ) → a ≤ r → r < a + n → Among r (range_with_len a n)
 among_range zero a r le lt = absurd (omega arith)
 among_range (suc n) a r le lt = elim (cases_eq a r) [ inl e ↦ inl e | inr ne ↦ inr (among_range n (a + 1) r (omega arith) (omega arith)) ]
 
@@ -44,7 +44,7 @@ module _ {U : Type 0} where
       ] refl
 
   -- a fact of the streams that are left, where those with it are closed
-  all_closed : (Q : (ℕ × U) → Type 0) (rs : List ℕ) (h : List (ℕ × U)) → AllByRecursion (λ e. Q e ⊎ Among e.0 rs) h → AllByRecursion Q (without_all rs h)
+  pub all_closed : (Q : (ℕ × U) → Type 0) (rs : List ℕ) (h : List (ℕ × U)) → AllByRecursion (λ e. Q e ⊎ Among e.0 rs) h → AllByRecursion Q (without_all rs h)
   all_closed Q [] [] a = tt
   all_closed Q [] (e ∷ h) a = ((elim a.0 [ inl q ↦ q | inr i ↦ absurd i ]), all_closed Q [] h a.1)
   all_closed Q (r ∷ rs) h a = all_closed Q rs (without r h)
@@ -64,7 +64,7 @@ module _ {U : Type 0} where
   any_later : (test : (ℕ × U) → Bool) (e : ℕ × U) (h : List (ℕ × U)) → list_any test h ≡ true → list_any test (e ∷ h) ≡ true
   any_later test e h p = elim (test e) as (λ b. (b || list_any test h) ≡ true) [ true ↦ refl | false ↦ p ]
 
-  each_of : (P : (ℕ × U) → Type 0) (whole h : List (ℕ × U)) → ((test : (ℕ × U) → Bool) → list_any test h ≡ true → list_any test whole ≡ true)
+  pub each_of : (P : (ℕ × U) → Type 0) (whole h : List (ℕ × U)) → ((test : (ℕ × U) → Bool) → list_any test h ≡ true → list_any test whole ≡ true)
       → ((e : ℕ × U) → ((test : (ℕ × U) → Bool) → test e ≡ true → list_any test whole ≡ true) → P e) → AllByRecursion P h
   each_of P whole [] sub f = tt
   each_of P whole (e ∷ h) sub f = (f e (λ test p. sub test (any_hit test e h p)), each_of P whole h (λ test p. sub test (any_later test e h p)) f)
@@ -115,7 +115,7 @@ module _ {U : Type 0} where
   entered_seals [] l = refl
   entered_seals (r ∷ rs) l = entered_seals rs l
 
-  seals_leave : (rs : List ℕ) (h : List (ℕ × U)) → unsealed_after h (map Seal rs) ≡ without_all rs h
+  pub seals_leave : (rs : List ℕ) (h : List (ℕ × U)) → unsealed_after h (map Seal rs) ≡ without_all rs h
   seals_leave [] h = refl
   seals_leave (r ∷ rs) h = seals_leave rs (without r h)
 

@@ -23,7 +23,7 @@ module _ {U : Type 0} where
   fresh s (Enter r u ∷ l) = keep_if (eqb r s && not (sealed_in s l)) (r, u) (fresh s l)
   fresh s (Seal r ∷ l) = fresh s l
 
-  none_of_stream : (s : ℕ) (h : List (ℕ × U)) → of_stream s (without s h) ≡ []
+  pub none_of_stream : (s : ℕ) (h : List (ℕ × U)) → of_stream s (without s h) ≡ []
   none_of_stream s [] = refl
   none_of_stream s (e ∷ h) = let ih = none_of_stream s h in
       elim (eqb e.0 s) as (λ b. eqb e.0 s ≡ b → of_stream s (keep_if (not b) e (without s h)) ≡ []) [
@@ -31,7 +31,7 @@ module _ {U : Type 0} where
         | false ↦ λ p. ap (λ b. keep_if b e (of_stream s (without s h))) p ∙ ih
       ] refl
 
-  other_stream : (s r : ℕ) (h : List (ℕ × U)) → s ≢ r → of_stream s (without r h) ≡ of_stream s h
+  pub other_stream : (s r : ℕ) (h : List (ℕ × U)) → s ≢ r → of_stream s (without r h) ≡ of_stream s h
   other_stream s r [] ne = refl
   other_stream s r (e ∷ h) ne = let ih = other_stream s r h ne in
       elim (eqb e.0 r) as (λ b. eqb e.0 r ≡ b → of_stream s (keep_if (not b) e (without r h)) ≡ keep_if (eqb e.0 s) e (of_stream s h)) [

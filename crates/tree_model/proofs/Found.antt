@@ -1,21 +1,18 @@
 -- What the entries of a directory say of the rows.
 use Rattle.std.proofs.Common.{◌≡◌, ℕ, List, [], ◌∷◌, refl, sym, ap, subst, ◌∙◌}
-use Rattle.std.specs.Prelude.{Bool, true, false, cond, T, is_none, IsTrue, ◌↔◌}
+use Rattle.std.specs.Prelude.{Bool, true, false, cond, T, is_none, ◌↔◌}
 use Rattle.std.specs.declared.option.Option.{Option}
 use Rattle.std.specs.declared.option.Option.TheVariants.{None, Some}
 use Rattle.std.specs.Ordering.{nat_cmp, eq_by_cmp, is_eq}
 use Rattle.std.specs.Cmp.{unsigned_tied}
 use Rattle.std.proofs.lemmas.Cmp.{nat_list_cmp_total, tied_itself}
-use Rattle.std.proofs.lemmas.Bool.{and_parts, and_from, eqb-true, eq-eqb}
+use Rattle.std.proofs.lemmas.Bool.{and_parts, eqb-true, eq-eqb}
 use Rattle.std.proofs.lemmas.Option.{same_Some, some_pair_parts}
 use Rattle.std.specs.FinMap.{get, find, is_sorted, entries, entries_sorted, get-entries}
 use Rattle.std.specs.FinMap.Entries.{below_all}
 use Rattle.tree_model.specs.declared.rows.Row.{Row}
-use Rattle.tree_model.specs.declared.rows.Update.{Update}
-use Rattle.tree_model.specs.declared.rows.Update.TheVariants.{Make}
-use Rattle.tree_model.specs.Rows.{Rows, spot, place, kind_of, is_kind, IsEntry, IsVacant, IsTree}
+use Rattle.tree_model.specs.Rows.{Rows, spot, place, IsEntry, IsVacant, IsTree}
 use Rattle.tree_model.specs.Entries.{is_parent, entries_among, entry}
-use Rattle.tree_model.specs.Updates.{applies, Fits}
 use Rattle.tree_model.proofs.MapView.{tied, bytes_same}
 use Rattle.tree_model.proofs.Index.{bytes_cmp, is_true, is_less, passed, entry_found}
 
@@ -124,19 +121,3 @@ stands_go t w d n x (Some y) is e = ap (λ z. Some z) (w.unique y x d n (entry_s
 
 pub entry_is : (t : Rows) → IsTree t → (d : ℕ) (n : List ℕ) (x : ℕ) → (entry t d n ≡ Some x) ↔ IsEntry t d n x
 entry_is t w d n x = (entry_stands t d n x, stands_go t w d n x (entry t d n) refl)
-
--- ---- the test of an update
-is_none_none : {A : Type 0} (o : Option A) → is_none o ≡ true → o ≡ None
-is_none_none None h = refl
-is_none_none (Some x) h = absurd (subst T (sym h) tt)
-
-a_dir : (o : Option Bool) → is_kind o true ≡ true → o ≡ Some true
-a_dir None h = absurd (subst T (sym h) tt)
-a_dir (Some true) h = refl
-a_dir (Some false) h = absurd (subst T (sym h) tt)
-
-pub applies_fits : (t : Rows) (u : Update) → IsTrue (applies t u) ↔ Fits t u
-applies_fits t (Make dir name id is_dir) = (
-  λ h. (let p = and_parts _ _ h in let q = and_parts _ _ p.1 in (a_dir (kind_of t dir) p.0, vacant_none t dir name (is_none_none _ q.0), is_none_none _ q.1)),
-  λ f. and_from _ _ (ap (λ o. is_kind o true) f.0) (and_from _ _ (ap is_none (none_vacant t dir name f.1)) (ap is_none f.2)),
-)

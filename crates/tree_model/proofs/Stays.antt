@@ -16,11 +16,16 @@ use Rattle.std.specs.FinMap.{FinMap, get, insert, remove, get-remove, empty, fin
 use Rattle.std.specs.FinMap.Entries.{below_all}
 use Rattle.tree_model.specs.declared.rows.Row.{Row}
 use Rattle.tree_model.specs.declared.rows.Update.TheVariants.{Make}
-use Rattle.tree_model.specs.Rows.{Rows, kind, is_kind}
-use Rattle.tree_model.specs.Entries.{is_parent, Index, entries_of, entry, children}
-use Rattle.tree_model.specs.Updates.{Count, Recount, change, store, apply, applies, new_body}
+use Rattle.tree_model.specs.Rows.{Rows, IsTree, kind, is_kind, alone}
+use Rattle.tree_model.specs.Entries.{Index, entries_of, entry, children}
+use Rattle.tree_model.specs.Updates.{Count, change, store, recount, on_body, recounted, apply, new_body}
+use Rattle.tree_model.specs.Tests.{applies}
+use Rattle.tree_model.specs.declared.rows.Body.TheVariants.{Dir}
 use Rattle.tree_model.specs.Nodes.{Kept, KeptRows, counted_row, recounted_row, entered, told, on_node, put_at, rows_in, index_in, IsKept}
 use Rattle.tree_model.proofs.Index.{index_new, index_same, index_empty, index_small, no_entries}
+use Rattle.tree_model.proofs.Same.{alone_tree, recounted_tree}
+use Rattle.tree_model.proofs.Fitting.{applies_fits}
+use Rattle.tree_model.proofs.TreeKept.{keeps}
 
 abbrev pub row_in : Option Kept → Option Row
 row_in None = None
@@ -80,46 +85,46 @@ get_put m x k d = get-insert nat_cmp_total m x k d ∙ ap (λ b. cond b (Some k)
 pub rows_none : rows_in empty ≡ empty
 rows_none = same_map nat_cmp_total nat_cmp-IsAntisymmetric _ _ (λ q. get_rows empty q ∙ ap row_in (get-empty nat_cmp q) ∙ sym (get-empty nat_cmp q))
 
--- nothing is kept
-pub kept_none : IsKept empty
-kept_none = record {
-  indexed = λ d. ap index_in (get-empty nat_cmp d) ∙ sym (index_empty d) ∙ ap (λ t. entries_of t d) (sym rows_none);
-  few = subst (λ n. n < 2 ^ 32) (sym (len-empty nat_cmp Kept)) (omega arith);
-}
-
 -- a new row without entries under a free serial, at a place that no row has
-cond_other : {A : Type 0} (d x : ℕ) (a b : A) → (d ≡ x → a ≡ b) → cond (d == x) a b ≡ b
+pub cond_other : {A : Type 0} (d x : ℕ) (a b : A) → (d ≡ x → a ≡ b) → cond (d == x) a b ≡ b
 cond_other d x a b h = elim (d == x) as (λ z. (d == x) ≡ z → cond z a b ≡ b) [ true ↦ λ p. h (eqb-true d x p) | false ↦ λ p. refl ] refl
 
 free_index : (m : KeptRows) → IsKept m → (x : ℕ) → get m x ≡ None → entries_of (rows_in m) x ≡ empty
 free_index m k x free = sym (k.indexed x) ∙ ap index_in free
 
-free_row : (m : KeptRows) (x : ℕ) → get m x ≡ None → get (rows_in m) x ≡ None
+pub free_row : (m : KeptRows) (x : ℕ) → get m x ≡ None → get (rows_in m) x ≡ None
 free_row m x free = get_rows m x ∙ ap row_in free
 
 len_free : (m : KeptRows) (x : ℕ) (k : Kept) → get m x ≡ None → len (insert m x k) ≡ len m + 1
 len_free m x k free = len-insert nat_cmp_total m x k ∙ ap (λ o. cond (is_some o) (len m) (len m + 1)) free
 
-len_there : (m : KeptRows) (x : ℕ) (was k : Kept) → get m x ≡ Some was → len (insert m x k) ≡ len m
+pub len_there : (m : KeptRows) (x : ℕ) (was k : Kept) → get m x ≡ Some was → len (insert m x k) ≡ len m
 len_there m x was k is = len-insert nat_cmp_total m x k ∙ ap (λ o. cond (is_some o) (len m) (len m + 1)) is
 
--- a row that stands nowhere, alone
-pub kept_alone : (x : ℕ) (r : Row) → r.parent ≡ None → IsKept (insert empty x (r, empty)) × (rows_in (insert empty x (r, empty)) ≡ insert empty x r)
-kept_alone x r p =
-    let is : rows_in (insert empty x (r, empty)) ≡ insert empty x r = rows_put empty x (r, empty) ∙ ap (λ t. insert t x r) rows_none in (
-      record {
-        indexed = λ d. index_put empty x (r, empty) d ∙ cond_other d x empty (index_in (get empty d)) (λ _. sym (ap index_in (get-empty nat_cmp d)))
-            ∙ ap index_in (get-empty nat_cmp d) ∙ sym (index_empty d)
-            ∙ sym (index_new empty x r d (get-empty nat_cmp x) (λ h. absurd (subst T (sym h ∙ ap (λ o. is_parent o d) p) tt)) ∙ ap (λ o. cond (is_parent o d) (insert (entries_of empty d) r.name x) (entries_of empty d)) p)
-            ∙ ap (λ t. entries_of t d) (sym is);
-        few = subst (λ n. n < 2 ^ 32) (sym (len_free empty x (r, empty) (get-empty nat_cmp x))) (let z = len-empty nat_cmp Kept in omega arith);
-      },
-      is,
-    )
+-- the root alone
+abbrev pub root_row : ℕ → Row
+root_row changes = record { parent = None; name = []; body = Dir changes }
+
+pub alone_rows : (changes : ℕ) → rows_in (insert empty 0 (root_row changes, empty)) ≡ alone changes
+alone_rows changes = rows_put empty 0 (root_row changes, empty) ∙ ap (λ t. insert t 0 (root_row changes)) rows_none
+
+pub kept_alone : (changes : ℕ) → IsKept (insert empty 0 (root_row changes, empty))
+kept_alone changes =
+    let r = root_row changes in
+    let is = alone_rows changes in
+    record {
+      tree = subst IsTree (sym is) (alone_tree changes);
+      indexed = λ d. index_put empty 0 (r, empty) d ∙ cond_other d 0 empty (index_in (get empty d)) (λ _. sym (ap index_in (get-empty nat_cmp d)))
+          ∙ ap index_in (get-empty nat_cmp d) ∙ sym (index_empty d)
+          ∙ sym (index_new empty 0 r d (get-empty nat_cmp 0) (λ h. absurd (subst T (sym h) tt)))
+          ∙ ap (λ t. entries_of t d) (sym is);
+      few = subst (λ n. n < 2 ^ 32) (sym (len_free empty 0 (r, empty) (get-empty nat_cmp 0))) (let z = len-empty nat_cmp Kept in omega arith);
+    }
 
 -- a row that changes and stays where it stands
-pub kept_changed : (m : KeptRows) → IsKept m → (x : ℕ) (was : Kept) (r : Row) → get m x ≡ Some was → r.parent ≡ was.0.parent → r.name ≡ was.0.name → IsKept (insert m x (r, was.1))
-kept_changed m k x was r is p q = record {
+pub kept_changed : (m : KeptRows) → IsKept m → (x : ℕ) (was : Kept) (r : Row) → get m x ≡ Some was → r.parent ≡ was.0.parent → r.name ≡ was.0.name → IsTree (insert (rows_in m) x r) → IsKept (insert m x (r, was.1))
+kept_changed m k x was r is p q tree = record {
+  tree = subst IsTree (sym (rows_put m x (r, was.1))) tree;
   indexed = λ d. index_put m x (r, was.1) d
       ∙ cond_other d x was.1 (index_in (get m d)) (λ e. sym (ap (λ z. index_in (get m z)) e ∙ ap index_in is))
       ∙ k.indexed d ∙ sym (index_same (rows_in m) x was.0 r d (get_rows m x ∙ ap row_in is) p q) ∙ ap (λ t. entries_of t d) (sym (rows_put m x (r, was.1)));
@@ -174,7 +179,10 @@ made m k dir name id is_dir h few =
     let m2 = insert m1 dir (entered name id was) in
     let same : on_node (entered name id) m1 dir ≡ m2 = ap (put_at (entered name id) m1 dir) there1 in
     let rows2 : rows_in m2 ≡ insert t1 dir (counted_row was.0) = rows_put m1 dir (entered name id was) ∙ ap (λ z. insert z dir (counted_row was.0)) (rows_put m id (r, empty)) in
+    let u = Make dir name id is_dir in
+    let rows : rows_in m2 ≡ apply t u = rows2 ∙ ap (λ o. store t1 dir (change Count o)) (sym row1) in
     let whole : IsKept m2 = record {
+      tree = subst IsTree (sym rows) (keeps t u (k.tree, (applies_fits t u k.tree).0 h));
       indexed = λ d.
           index_put m1 dir (entered name id was) d
           ∙ ap (cond (d == dir) (insert was.1 name id)) (index_put m id (r, empty) d ∙ cond_other d id empty (index_in (get m d)) (λ e. sym (ap (λ z. index_in (get m z)) e ∙ ap index_in free)) ∙ k.indexed d)
@@ -185,7 +193,7 @@ made m k dir name id is_dir h few =
     } in
     record {
       kept = subst IsKept (sym same) whole;
-      rows = ap rows_in same ∙ rows2 ∙ ap (λ o. store t1 dir (change Count o)) (sym row1);
+      rows = ap rows_in same ∙ rows;
     }
 
 -- ---- what is found among what is kept
@@ -227,24 +235,27 @@ bare_there m k x None is = ap entries (free_index m k x (sym is)) ∙ no_entries
 bare_there m k x (Some node) is = tt
 
 -- ---- a directory's count told
-none_stored : (t : Rows) (x : ℕ) → get t x ≡ None → t ≡ remove t x
+pub none_stored : (t : Rows) (x : ℕ) → get t x ≡ None → t ≡ remove t x
 none_stored t x e = same_map nat_cmp_total nat_cmp-IsAntisymmetric _ _ (λ q. sym (get-remove nat_cmp_total t x q
     ∙ ap (λ b. cond b None (get t q)) (unsigned_tied q x)
     ∙ cond_other q x None (get t q) (λ p. sym (ap (get t) p ∙ e))))
 
 pub record Told (m : KeptRows) (x changes : ℕ) (n : KeptRows) : Type 0 where
   pub kept : IsKept n
-  pub rows : rows_in n ≡ store (rows_in m) x (change (Recount changes) (get (rows_in m) x))
+  pub rows : rows_in n ≡ recount (rows_in m) x changes
 
 told_at : (m : KeptRows) → IsKept m → (x changes : ℕ) (o : Option Kept) → get m x ≡ o → Told m x changes (put_at (told changes) m x o)
 told_at m k x changes None is = record {
   kept = k;
-  rows = none_stored (rows_in m) x (free_row m x is) ∙ ap (λ o. store (rows_in m) x (change (Recount changes) o)) (sym (free_row m x is));
+  rows = none_stored (rows_in m) x (free_row m x is) ∙ ap (λ o. store (rows_in m) x (on_body (recounted changes) o)) (sym (free_row m x is));
 }
-told_at m k x changes (Some was) is = record {
-  kept = kept_changed m k x was (recounted_row changes was.0) is refl refl;
-  rows = rows_put m x (told changes was) ∙ ap (λ o. store (rows_in m) x (change (Recount changes) o)) (sym (get_rows m x ∙ ap row_in is));
-}
+told_at m k x changes (Some was) is =
+    let there : get (rows_in m) x ≡ Some was.0 = get_rows m x ∙ ap row_in is in
+    let stored : recount (rows_in m) x changes ≡ insert (rows_in m) x (recounted_row changes was.0) = ap (λ o. store (rows_in m) x (on_body (recounted changes) o)) there in
+    record {
+      kept = kept_changed m k x was (recounted_row changes was.0) is refl refl (subst IsTree stored (recounted_tree (rows_in m) k.tree x changes));
+      rows = rows_put m x (told changes was) ∙ sym stored;
+    }
 
 pub told_kept : (m : KeptRows) → IsKept m → (x changes : ℕ) → Told m x changes (on_node (told changes) m x)
 told_kept m k x changes = told_at m k x changes (get m x) refl

@@ -1,6 +1,10 @@
 pub mod Rows
 pub mod Entries
 pub mod Updates
+pub mod Tests
+pub mod Keys
+pub mod Weights
+pub mod Laws
 pub mod Nodes
 pub mod Walk
 pub mod Picture

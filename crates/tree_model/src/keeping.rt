@@ -1,17 +1,17 @@
 //! A tree as it is kept: each row with its entries, by serial.
-ghost use Rattle.std.specs.Prelude.{◌≡◌, ◌^◌, ◌<◌, IsTrue, OnOk, OnErr, IfOk, IfSome, IfNone, length, []};
+ghost use Rattle.std.specs.Prelude.{◌≡◌, ◌^◌, ◌<◌, IfOk, IfSome, IfNone, length, []};
 ghost use Rattle.std.specs.FinMap as map;
 ghost use Rattle.std.specs.Option.{option_copied};
-ghost use Rattle.tree_model.specs.Rows.{is_dir_at, alone};
+ghost use Rattle.tree_model.specs.Rows.{IsTree, is_dir_at, alone};
 ghost use Rattle.tree_model.specs.Entries.{entry, children};
 ghost use Rattle.tree_model.specs.Picture.{node_of};
-ghost use Rattle.tree_model.specs.Updates.{applies, apply, store, change, Recount};
-ghost use Rattle.tree_model.specs.declared.rows.Update.TheVariants as update_;
+ghost use Rattle.tree_model.specs.Updates.{recount};
 
-use super::nodes::{Node, Nodes};
-use super::rows::{Body, Row, Update};
+use super::node::Node;
+use super::nodes::Nodes;
+use super::rows::{Body, Row};
 use ccfs_base::{Name, NoMemory};
-use std::alloc::{AllocError, Global};
+use std::alloc::Global;
 use std::marker::Model;
 
 /// The serial of the root.
@@ -20,8 +20,8 @@ pub const ROOT: u32 = 0;
 /// A tree of files. A contract sees it as its rows by their serials; there are fewer than 2^32 of them.
 #[derive(Drop)]
 pub struct Tree {
-    alloc: Global,
-    nodes: Nodes,
+    pub(crate) alloc: Global,
+    pub(crate) nodes: Nodes,
 }
 
 impl Model for Tree {
@@ -61,6 +61,13 @@ impl Tree {
         let mut nodes = Nodes::new(alloc);
         nodes.put(ROOT, Node::new(alloc, row))?;
         Ok(Tree { alloc, nodes })
+    }
+
+    /// A law: the rows of a `Tree` are a tree, whatever was done to it.
+    pub fn is_a_tree(&self)
+        ensures { IsTree self.now }
+    {
+        let _ = &self.nodes;
     }
 
     /// How many rows there are.
@@ -120,56 +127,9 @@ impl Tree {
         }
     }
 
-    /// Whether an update can be made.
-    pub fn applies(&self, update: &Update) -> bool
-        ensures { result ≡ applies self.now update.now }
-    {
-        match update {
-            Update::Make {
-                dir,
-                name,
-                id,
-                is_dir: _,
-            } => self.is_dir(*dir) && self.entry(*dir, name).is_none() && self.row(*id).is_none(),
-        }
-    }
-
-    /// Makes an update. Without memory, or where there are 2^32 - 1 rows already, all is as before.
-    pub fn apply(&mut self, update: &Update) -> Result<(), NoMemory>
-        requires { IsTrue (applies self.old update.now) }
-        ensures ok { OnOk result (self.new ≡ apply self.old update.now) }
-        ensures err { OnErr result (self.new ≡ self.old) }
-    {
-        match update {
-            Update::Make {
-                dir,
-                name,
-                id,
-                is_dir,
-            } => self.make(*dir, *name, *id, *is_dir),
-        }
-    }
-
-    fn make(&mut self, dir: u32, name: Name, id: u32, is_dir: bool) -> Result<(), NoMemory>
-        requires { IsTrue (applies self.old (update_.Make dir name id is_dir)) }
-        ensures ok { OnOk result (self.new ≡ apply self.old (update_.Make dir name id is_dir)) }
-        ensures err { OnErr result (self.new ≡ self.old) }
-    {
-        if self.nodes.len() >= u32::MAX as usize {
-            return Err(AllocError);
-        }
-        let row = Row {
-            parent: Some(dir),
-            name,
-            body: Body::new(self.alloc, is_dir),
-        };
-        self.nodes
-            .put_below(dir, name, id, Node::new(self.alloc, row))
-    }
-
     /// Sets a directory's count of changes. Where the row is a file or isn't there, all is as before.
     pub fn with_changes(&mut self, id: u32, changes: u64)
-        ensures { self.new ≡ store self.old id (change (Recount changes) (map.get self.old id)) }
+        ensures { self.new ≡ recount self.old id changes }
     {
         self.nodes.recount(id, changes);
     }

@@ -6,14 +6,22 @@
 #![tactic(auto)]
 
 mod keeping;
+mod keys;
 pub mod laws;
+#[cfg(test)]
+mod meeting_tests;
+mod node;
 mod nodes;
 mod picturing;
 mod rows;
 #[cfg(test)]
 mod tests;
+mod updating;
+#[cfg(test)]
+mod updating_tests;
 mod walking;
 
 pub use keeping::{ROOT, Tree};
+pub use keys::{Key, keys_of, meets};
 pub use picturing::{Item, ItemKind, Picture};
 pub use rows::{Body, Entry, Row, Update};

@@ -1,7 +1,8 @@
 //! The rows of a tree, and the changes of one.
-ghost use Rattle.std.specs.Prelude.{◌≡◌, IfOk, IsTrue, ◌↔◌};
+ghost use Rattle.std.specs.Prelude.{◌≡◌, ◌+◌, ◌<◌, ◌^◌, length, IfOk, OnOk, OnErr};
+ghost use Rattle.ccfs_base.specs.Contents.{resized, written};
 ghost use Rattle.tree_model.specs.Rows.{is_dir};
-ghost use Rattle.tree_model.specs.Updates.{counted, new_body};
+ghost use Rattle.tree_model.specs.Updates.{counted, refilled, new_body};
 
 use ccfs_base::{Bytes, Command, Name, NoMemory, Reply};
 use std::alloc::Global;
@@ -51,6 +52,30 @@ impl Body {
         }
     }
 
+    /// Cuts a file to this length in bytes, or fills it up with zeros. A directory's body stays as it is. Without memory
+    /// all is as before.
+    pub(crate) fn resize(&mut self, len: usize) -> Result<(), NoMemory>
+        ensures ok { OnOk result (self.new ≡ refilled (resized len) self.old) }
+        ensures err { OnErr result (self.new ≡ self.old) }
+    {
+        match self {
+            Body::Dir { .. } => Ok(()),
+            Body::File { bytes } => bytes.resize(len),
+        }
+    }
+
+    /// Puts bytes at a place of a file. A directory's body stays as it is. Without memory all is as before.
+    pub(crate) fn write_at(&mut self, off: usize, new: &[u8]) -> Result<(), NoMemory>
+        requires { off + length new.now < 2 ^ 64 }
+        ensures ok { OnOk result (self.new ≡ refilled (written off new.now) self.old) }
+        ensures err { OnErr result (self.new ≡ self.old) }
+    {
+        match self {
+            Body::Dir { .. } => Ok(()),
+            Body::File { bytes } => bytes.write_at(off, new),
+        }
+    }
+
     /// The same body once more.
     pub fn copy(&self) -> Result<Body, NoMemory>
         ensures { IfOk result (λ body. body ≡ self.now) }
@@ -88,7 +113,7 @@ impl Row {
     }
 }
 
-/// A change of a tree.
+/// A change of a tree. Rows are named by their serials; the root's is 0.
 #[derive(Debug, Drop)]
 pub enum Update {
     /// Puts a new row, an empty directory or file, into a directory, and counts a change of that directory.
@@ -101,6 +126,58 @@ pub enum Update {
         id: u32,
         /// Whether it is a directory (true) or a file.
         is_dir: bool,
+    },
+    /// Puts bytes into a file, over what stands there, and zeros in a gap before them.
+    Write {
+        /// The file.
+        id: u32,
+        /// The first byte's place in the file, in bytes from 0.
+        off: u64,
+        /// The bytes, at least one.
+        bytes: Bytes,
+    },
+    /// Cuts a file off, or fills it up with zeros.
+    Resize {
+        /// The file.
+        id: u32,
+        /// The new length in bytes.
+        len: u64,
+    },
+    /// Removes a file or an empty directory, and counts a change of the directory that it stood in.
+    Remove {
+        /// The directory that it stands in.
+        dir: u32,
+        /// Its name there.
+        name: Name,
+        /// Its serial.
+        id: u32,
+        /// Whether it is a file that is open, and so stays as a file without a name.
+        stays: bool,
+    },
+    /// Moves a row to another place, and counts a change of the directory that it leaves and then one of the directory
+    /// that it comes to.
+    Move {
+        /// The directory that it stands in.
+        dir: u32,
+        /// Its name there.
+        name: Name,
+        /// The directory that it comes to.
+        to_dir: u32,
+        /// Its name there.
+        to_name: Name,
+        /// Its serial.
+        id: u32,
+        /// Whether it is a directory (true) or a file.
+        is_dir: bool,
+        /// The file that stands at the new place, if there is one. It is removed.
+        replaced: Option<u32>,
+        /// Whether that file is open, and so stays as a file without a name.
+        stays: bool,
+    },
+    /// Drops a file without a name.
+    Release {
+        /// The file.
+        id: u32,
     },
 }
 

@@ -5,7 +5,8 @@ use Rattle.std.specs.declared.option.Option.TheVariants.{Some}
 use Rattle.std.specs.FinMap as map
 use Rattle.std.proofs.lemmas.Result.{on_ok_weaker, on_err_weaker}
 use Rattle.tree_model.specs.declared.rows.Update.TheVariants.{Make}
-use Rattle.tree_model.specs.Updates.{applies, apply, new_body}
+use Rattle.tree_model.specs.Updates.{apply, new_body}
+use Rattle.tree_model.specs.Tests.{applies}
 use Rattle.tree_model.specs.Nodes.{IsKept, on_node, entered}
 use Rattle.tree_model.proofs.Stays.{id_free, made, Made, on_both}
 use Rattle.tree_model.proofs.keeping.Tree.make.Goals as goal

@@ -1,6 +1,5 @@
 use Rattle.std.proofs.Common.{ap, sym, subst, ◌∙◌}
-use Rattle.std.specs.FinMap as map
-use Rattle.tree_model.specs.Updates.{Recount, change, store}
+use Rattle.tree_model.specs.Updates.{recount}
 use Rattle.tree_model.specs.Nodes.{IsKept, rows_in}
 use Rattle.tree_model.proofs.Stays.{told_kept}
 use Rattle.tree_model.proofs.keeping.Tree.with_changes.Goals as goal
@@ -11,4 +10,4 @@ invariant_of-self c = subst IsKept (sym c.recount.ensures) (told_kept c.self.ins
 pub returns : goal.returns
 returns c =
     ap rows_in c.recount.ensures ∙ (told_kept c.self.inside.nodes c.self.invariant c.args.id c.args.changes).rows
-    ∙ ap (λ t. store t c.args.id (change (Recount c.args.changes) (map.get t c.args.id))) c.self.view_is
+    ∙ ap (λ t. recount t c.args.id c.args.changes) c.self.view_is

@@ -1,0 +1,9 @@
+pub mod Plain
+pub mod Guarded
+pub mod Running
+pub mod Light
+pub mod Synced
+pub mod LostApart
+pub mod TreesKept
+pub mod Laws
+pub mod Examples

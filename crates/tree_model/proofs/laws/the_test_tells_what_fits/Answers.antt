@@ -1,5 +1,0 @@
-use Rattle.tree_model.proofs.Found.{applies_fits}
-use Rattle.tree_model.proofs.laws.the_test_tells_what_fits.Goals as goal
-
-pub returns : goal.returns
-returns c = applies_fits
