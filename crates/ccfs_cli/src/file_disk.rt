@@ -1,5 +1,5 @@
 // A disk that is a file: a part of the trusted edge. It tells nothing of its contents.
-ghost use Rattle.std.specs.Prelude.{◌≡◌, ◌≤◌, ℕ, List, [], false};
+ghost use Rattle.std.specs.Prelude.{◌≡◌, ◌≤◌, ℕ, List, [], false, None};
 ghost use Rattle.fault_counts.specs.Counts.{Rose};
 
 use disk_model::{Disk, DiskFailed};
@@ -24,6 +24,9 @@ pub struct FileDisk<'a, R: Files<File = File>> {
 impl<'a, R: Files<File = File>> FileDisk<'a, R> {
     /// The disk in the file of that path. Its known length is 0 until `size` or `set_size` answers Ok.
     pub fn at(rt: &'a R, path: &'a str) -> Self
+        ensures path { result.path.now ≡ path.now }
+        ensures unopened { result.file ≡ None }
+        ensures lost { result.has_lost ≡ false }
         ensures known { result.known ≡ 0 }
         ensures faults { result.faults ≡ 0 }
     {
@@ -42,6 +45,7 @@ impl<'a, R: Files<File = File>> FileDisk<'a, R> {
         ensures faults { Rose self.old.faults self.new.faults }
         ensures later { self.old.faults ≤ self.new.faults }
         ensures known { self.new.known ≡ self.old.known }
+        ensures lost { self.new.has_lost ≡ self.old.has_lost }
     {
         self.faults = raised_count(self.faults);
         DiskFailed
@@ -51,6 +55,7 @@ impl<'a, R: Files<File = File>> FileDisk<'a, R> {
     fn open(&mut self, may_make: bool)
         ensures faults { self.new.faults ≡ self.old.faults }
         ensures known { self.new.known ≡ self.old.known }
+        ensures lost { self.new.has_lost ≡ self.old.has_lost }
     {
         if self.file.is_none() {
             let mut how = OpenOptions::new();

@@ -1,5 +1,5 @@
 // A script in a file: a part of the trusted edge. It tells nothing of its contents.
-ghost use Rattle.std.specs.Prelude.{◌≡◌, ◌≤◌, ℕ, List, []};
+ghost use Rattle.std.specs.Prelude.{◌≡◌, ◌≤◌, ℕ, List, [], None};
 ghost use Rattle.fault_counts.specs.Counts.{Rose};
 
 use ccfs_base::{Source, SourceFailed};
@@ -20,7 +20,9 @@ pub struct FileSource<'a, R: Files<File = File>> {
 impl<'a, R: Files<File = File>> FileSource<'a, R> {
     /// The script in the file of that path.
     pub fn at(rt: &'a R, path: &'a str) -> Self
-        ensures { result.faults ≡ 0 }
+        ensures path { result.path.now ≡ path.now }
+        ensures unopened { result.file ≡ None }
+        ensures faults { result.faults ≡ 0 }
     {
         FileSource {
             rt,

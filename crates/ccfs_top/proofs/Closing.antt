@@ -8,7 +8,7 @@ use Rattle.std.specs.declared.result.Result.TheVariants.{Ok, Err}
 use Rattle.tree_model.specs.declared.rows.Entry.{Entry}
 use Rattle.tree_model.specs.Rows.{Rows}
 use Rattle.plain_image.specs.Opened.{opened}
-use Rattle.history_model.specs.Answers.{Now}
+use Rattle.history_model.specs.State.{Now}
 use Rattle.history_model.specs.Histories.{start}
 use Rattle.script_text.specs.declared.scripts.Call.{Call}
 use Rattle.script_text.specs.Scripts.{calls_of, is_long}

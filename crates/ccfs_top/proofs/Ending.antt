@@ -7,7 +7,7 @@ use Rattle.std.proofs.lemmas.Bool.{cases_eq}
 use Rattle.tree_model.specs.declared.rows.Entry.{Entry}
 use Rattle.tree_model.specs.Rows.{Rows}
 use Rattle.tree_model.specs.Picture.{picture}
-use Rattle.history_model.specs.Answers.{Now}
+use Rattle.history_model.specs.State.{Now}
 use Rattle.history_model.specs.Histories.{start, entered_by, entry_of, hist, tree_at}
 use Rattle.history_model.proofs.Longer.{hist_append}
 use Rattle.script_text.specs.declared.scripts.Call.{Call}
@@ -17,19 +17,25 @@ use Rattle.ccfs_top.specs.Runs.{asked, history, made, line_of, reply_lines, repl
 use Rattle.ccfs_top.specs.Ends.{joined, IsFront}
 use Rattle.ccfs_top.specs.Sessions.{Stands, Performed, Shows}
 use Rattle.ccfs_top.specs.Reached.{history_to, now_at, Reached}
-use Rattle.ccfs_top.proofs.Steps.{quiet_tree, sealed_tree, history_on, lines_more, lines_first}
+use Rattle.ccfs_top.proofs.MadeTrees.{next_serial}
+use Rattle.ccfs_top.proofs.Steps.{quiet_tree, sealed_tree, history_on, lines_more, lines_first, reached_start}
 
 -- a session that was just opened
 pub stands_start : (t : Rows) (s w : ℕ) → s ≡ 0 → w ≡ 0 → IsMade t → Stands (start t) t s w
 stands_start t s w seals unsealed made = record {
   tree = refl;
   seals = seals;
+  choices = refl;
   unsealed = unsealed;
   few = omega arith;
-  one_stream = tt;
-  next = refl;
+  of_makes = tt;
+  next = next_serial t made;
   made = made;
 }
+
+pub reached_first : (size : ℕ) (t : Rows) (calls : List Call) (s w : ℕ) → s ≡ 0 → w ≡ 0 → IsMade t → Reached size (start t) calls 0 t s w
+reached_first size t calls s w seals unsealed made =
+    subst (λ (z : ℕ). Reached size (start t) calls 0 t z w) (sym seals) (reached_start size (start t) calls t w (stands_start t 0 w refl unsealed made))
 
 -- ---- the number and what the disk shows
 
@@ -48,10 +54,10 @@ number_on first number number' s s' so_far quiet sealed = elim (cases_eq s' s) [
 pub shows_on : (size : ℕ) (n0 : Now) (calls : List Call) (i : ℕ) (c : Call) (tree tree' : Rows) (s w s' w' : ℕ) (doubt doubt' : Bool) (seen seen' : List ℕ) (number number' : ℕ)
     → n0.unsealed ≡ [] → n0.seals ≡ 0 → i < length calls → c ≡ get_or calls i c → Stands (now_at n0 calls i) tree s w
     → Performed size (now_at n0 calls i) c.actor c.command tree' s' w'
-    → Shows doubt seen number (picture (tree_at n0 (history_to n0 calls i) s))
+    → Shows doubt seen number (picture (tree_at sizes n0 (history_to n0 calls i) s))
     → (s' ≡ s → (number' ≡ number) × (doubt' ≡ doubt) × (seen' ≡ seen))
     → (s' ≢ s → Shows doubt' seen' number' (picture tree') × (w' ≡ 0))
-    → Shows doubt' seen' number' (picture (tree_at n0 (history_to n0 calls (i + 1)) s'))
+    → Shows doubt' seen' number' (picture (tree_at sizes n0 (history_to n0 calls (i + 1)) s'))
 shows_on size n0 calls i c tree tree' s w s' w' doubt doubt' seen seen' number number' none fresh lt is stands p shows quiet sealed =
     let n = now_at n0 calls i in
     let e = entry_of sizes n c.actor c.command in
@@ -60,19 +66,19 @@ shows_on size n0 calls i c tree tree' s w s' w' doubt doubt' seen seen' number n
     elim (cases_eq s' s) [
       | inl same ↦
           let q = quiet same in
-          let kept : tree_at n0 (h ++ e ∷ []) (entered_by n e).seals ≡ tree_at n0 h n.seals = quiet_tree n0 h e fresh (sym p.stands.seals ∙ same ∙ stands.seals) in
-          let trees : tree_at n0 (history_to n0 calls (i + 1)) s' ≡ tree_at n0 h s =
-          ap (λ (z : List Entry). tree_at n0 z s') more ∙ ap (tree_at n0 (h ++ e ∷ [])) p.stands.seals ∙ kept ∙ ap (tree_at n0 h) (sym stands.seals) in
+          let kept : tree_at sizes n0 (h ++ e ∷ []) (entered_by sizes n e).seals ≡ tree_at sizes n0 h n.seals = quiet_tree n0 h e fresh (sym p.stands.seals ∙ same ∙ stands.seals) in
+          let trees : tree_at sizes n0 (history_to n0 calls (i + 1)) s' ≡ tree_at sizes n0 h s =
+          ap (λ (z : List Entry). tree_at sizes n0 z s') more ∙ ap (tree_at sizes n0 (h ++ e ∷ [])) p.stands.seals ∙ kept ∙ ap (tree_at sizes n0 h) (sym stands.seals) in
           record {
             settled = q.1 ∙ shows.settled;
-            spelled = subst (λ (z : List ℕ). plain_of z ≡ Some (number', picture (tree_at n0 (history_to n0 calls (i + 1)) s'))) (sym q.2)
-                (shows.spelled ∙ ap (λ (z : ℕ). Some (z, picture (tree_at n0 h s))) (sym q.0) ∙ ap (λ (z : Rows). Some (number', picture z)) (sym trees));
+            spelled = subst (λ (z : List ℕ). plain_of z ≡ Some (number', picture (tree_at sizes n0 (history_to n0 calls (i + 1)) s'))) (sym q.2)
+                (shows.spelled ∙ ap (λ (z : ℕ). Some (z, picture (tree_at sizes n0 h s))) (sym q.0) ∙ ap (λ (z : Rows). Some (number', picture z)) (sym trees));
           }
       | inr apart ↦
           let now = sealed apart in
-          let empty : (entered_by n e).unsealed ≡ [] = nil_from_length (entered_by n e).unsealed (sym p.stands.unsealed ∙ now.1) in
-          let trees : tree_at n0 (history_to n0 calls (i + 1)) s' ≡ tree' =
-          ap (λ (z : List Entry). tree_at n0 z s') more ∙ ap (tree_at n0 (h ++ e ∷ [])) p.stands.seals ∙ sealed_tree n0 h e none fresh empty ∙ sym p.stands.tree in
+          let empty : (entered_by sizes n e).unsealed ≡ [] = nil_from_length (entered_by sizes n e).unsealed (sym p.stands.unsealed ∙ now.1) in
+          let trees : tree_at sizes n0 (history_to n0 calls (i + 1)) s' ≡ tree' =
+          ap (λ (z : List Entry). tree_at sizes n0 z s') more ∙ ap (tree_at sizes n0 (h ++ e ∷ [])) p.stands.seals ∙ sealed_tree n0 h e none fresh empty ∙ sym p.stands.tree in
           subst (λ (z : Rows). Shows doubt' seen' number' (picture z)) (sym trees) now.0
     ]
 
@@ -119,20 +125,20 @@ sink_front size n0 calls i c tree s w text0 text text1 written lt is r free so_f
     let n = now_at n0 calls i in
     let h = history_to n0 calls i in
     let e = entry_of sizes n c.actor c.command in
-    let behind = made size (entered_by n e) (drop (i + 1) calls) in
+    let behind = made size (entered_by sizes n e) (drop (i + 1) calls) in
     let rest : made size n (drop i calls) ≡ c ∷ behind =
     ap (made size n) (drop_more calls i c lt ∙ ap (λ (z : Call). z ∷ drop (i + 1) calls) (sym is)) ∙ ap (λ (b : Bool). cond b [] (c ∷ behind)) free in
-    let lines : replies size n0 calls ≡ reply_lines h ++ (line_of e ∷ reply_lines (history (entered_by n e) behind)) =
+    let lines : replies size n0 calls ≡ reply_lines h ++ (line_of e ∷ reply_lines (history (entered_by sizes n e) behind)) =
     ap (λ (z : List Call). reply_lines (history n0 z)) (r.made ∙ ap (λ (z : List Call). take i calls ++ z) rest)
     ∙ ap (λ z. reply_lines (hist sizes n0 z)) (map-append (λ (z : Call). (z.actor, z.command)) (take i calls) (c ∷ behind))
     ∙ ap reply_lines (hist_append sizes n0 (asked (take i calls)) (asked (c ∷ behind)))
     ∙ map-append line_of h (history n (c ∷ behind)) in
-    let tail = joined (reply_lines (history (entered_by n e) behind)) in (
+    let tail = joined (reply_lines (history (entered_by sizes n e) behind)) in (
       joined (reply_lines h) ++ written,
       more ∙ ap (λ (z : List ℕ). z ++ written) so_far ∙ append_assoc text0 (joined (reply_lines h)) written,
       (
         front.0 ++ tail,
-        ap joined lines ∙ joined_append (reply_lines h) (line_of e ∷ reply_lines (history (entered_by n e) behind))
+        ap joined lines ∙ joined_append (reply_lines h) (line_of e ∷ reply_lines (history (entered_by sizes n e) behind))
             ∙ ap (λ (z : List ℕ). joined (reply_lines h) ++ (z ++ tail)) front.1
             ∙ ap (λ (z : List ℕ). joined (reply_lines h) ++ z) (append_assoc written front.0 tail)
             ∙ sym (append_assoc (joined (reply_lines h)) written (front.0 ++ tail)),

@@ -7,7 +7,7 @@ use Rattle.std.specs.declared.option.Option.TheVariants.{None, Some}
 use Rattle.std.specs.declared.result.Result.{Result}
 use Rattle.std.specs.declared.result.Result.TheVariants.{Ok, Err}
 use Rattle.tree_model.specs.declared.rows.Entry.{Entry}
-use Rattle.history_model.specs.Answers.{Now}
+use Rattle.history_model.specs.State.{Now}
 use Rattle.script_text.specs.declared.scripts.Call.{Call}
 use Rattle.ccfs_top.specs.declared.stop.Stop.{Stop}
 use Rattle.ccfs_top.specs.declared.stop.Stop.TheVariants.{Usage, Long, NotBuilt, Source, Sink, Disk, BadImage, NoMemory}

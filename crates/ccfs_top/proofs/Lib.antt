@@ -1,5 +1,6 @@
 pub mod Steps
 pub mod Making
+pub mod MadeTrees
 pub mod Weighing
 pub mod Said
 pub mod Performing

@@ -1,14 +1,13 @@
 -- What each call leaves of what the history left before it.
-use Rattle.std.proofs.Common.{◌≡◌, ◌≢◌, ℕ, ◌+◌, ◌≤◌, ◌<◌, Bool, true, false, cond, ltb, ◌&&◌, IsTrue, List, [], ◌∷◌, ◌++◌, length, refl, sym, ap, ◌∙◌, subst, arith}
+use Rattle.std.proofs.Common.{◌≡◌, ◌≢◌, ℕ, ◌+◌, ◌≤◌, ◌<◌, Bool, true, false, cond, ltb, ◌&&◌, IsTrue, List, [], ◌∷◌, length, refl, sym, ap, ◌∙◌, subst, arith}
 use Rattle.std.specs.Prelude.{is_some, is_none}
 use Rattle.std.specs.declared.option.Option.{Option}
 use Rattle.std.specs.declared.option.Option.TheVariants.{None, Some}
 use Rattle.std.specs.declared.result.Result.{Result}
 use Rattle.std.specs.declared.result.Result.TheVariants.{Ok, Err}
 use Rattle.std.specs.FinMap.{get, len}
-use Rattle.std.proofs.lemmas.Bool.Decides.{nat_tests}
-use Rattle.stream_cuts.specs.Streams.{Enter, Seal, unsealed_after}
-use Rattle.stream_cuts.specs.Forced.{is_open}
+use Rattle.stream_cuts.specs.Streams.{Step, Enter, Seal, without, unsealed_after}
+use Rattle.stream_cuts.specs.Forced.{is_open, sealing}
 use Rattle.ccfs_base.specs.declared.commands.Command.{Command}
 use Rattle.ccfs_base.specs.declared.commands.Command.TheVariants.{Mkdir, Create, StreamSync}
 use Rattle.ccfs_base.specs.declared.replies.Refusal.{Refusal}
@@ -26,14 +25,16 @@ use Rattle.tree_model.specs.Updates.{apply}
 use Rattle.tree_model.specs.Tests.{applies}
 use Rattle.tree_model.specs.Walk.{from_there, only_dir, walk, front_of, last_of, parent_walk}
 use Rattle.tree_model.specs.Picture.{picture}
-use Rattle.history_model.specs.Answers.{Now, Answer, make, in_directory, refused, does, no_inode, is_root, entry_steps, closing, closes, seals_own}
-use Rattle.history_model.specs.Histories.{entered_by}
+use Rattle.tree_cuts.specs.Calls.{Charged, charge, Accepted, SyncStream, unsealed_rows, call_steps}
+use Rattle.history_model.specs.State.{Now, stream_in}
+use Rattle.history_model.specs.Answers.{Answer, make, from_row, refused, does, no_inode, is_root, closes}
+use Rattle.history_model.specs.Histories.{choices_by, steps_by, entered_by}
 use Rattle.plain_image.specs.Plain.{plain_bytes}
 use Rattle.ccfs_top.specs.Made.{IsMade}
 use Rattle.ccfs_top.specs.Stages.{sizes, is_blocked, forces_a_seal}
 use Rattle.ccfs_top.specs.Sessions.{Stands, make_command, serial_of, name_of, Answered}
 use Rattle.ccfs_top.proofs.Making.{make_len, make_keeps}
-use Rattle.ccfs_top.proofs.Weighing.{OfOne, open_some, open_none, none_left, not_full, full}
+use Rattle.ccfs_top.proofs.Weighing.{OfMakes, open_some, open_none, none_left, others_none, sealing_one, sealing_none, under, over, of_make, not_full, full, in_zero, accepted_alone}
 
 -- ---- the walk to the parent
 
@@ -60,45 +61,57 @@ parent_dir t path d is = dir_there t (walk t (front_of path) 0) d is
 -- ---- what mkdir and create answer
 
 abbrev then_make : Now → Bool → List (List ℕ) → ℕ → Answer
-then_make n b path d = cond (is_some (entry n.tree d (last_of path))) (refused Exists) (cond (no_inode sizes n) (refused NoInode) (does (Make d (last_of path) n.next b)))
+then_make n b path d = cond (is_some (entry n.tree d (last_of path))) (refused Exists) (cond (no_inode sizes n 0) (refused NoInode) (does (Make d (last_of path) n.next b)))
 
-pub make_at_root : (n : Now) (b : Bool) (path : List (List ℕ)) → path ≡ [] → make sizes n b path ≡ (Refused Exists, None)
-make_at_root n b path is = ap (make sizes n b) is
+pub make_at_root : (n : Now) (b : Bool) (path : List (List ℕ)) → path ≡ [] → make sizes n 0 b path ≡ (Refused Exists, None)
+make_at_root n b path is = ap (make sizes n 0 b) is
 
 not_root : (path : List (List ℕ)) → path ≢ [] → is_root path ≡ false
 not_root [] ne = absurd (ne refl)
 not_root (p ∷ ps) ne = refl
 
-below_root : (n : Now) (b : Bool) (path : List (List ℕ)) → path ≢ [] → make sizes n b path ≡ in_directory (parent_walk n.tree path) (then_make n b path)
-below_root n b path ne = ap (λ (z : Bool). cond z (refused Exists) (in_directory (parent_walk n.tree path) (then_make n b path))) (not_root path ne)
+below_root : (n : Now) (b : Bool) (path : List (List ℕ)) → path ≢ [] → make sizes n 0 b path ≡ from_row (parent_walk n.tree path) (then_make n b path)
+below_root n b path ne = ap (λ (z : Bool). cond z (refused Exists) (from_row (parent_walk n.tree path) (then_make n b path))) (not_root path ne)
 
-pub make_lost : (n : Now) (b : Bool) (path : List (List ℕ)) (cause : Refusal) → path ≢ [] → parent_walk n.tree path ≡ Err cause → make sizes n b path ≡ (Refused cause, None)
-make_lost n b path cause ne lost = below_root n b path ne ∙ ap (λ (z : Result ℕ Refusal). in_directory z (then_make n b path)) lost
+pub make_lost : (n : Now) (b : Bool) (path : List (List ℕ)) (cause : Refusal) → path ≢ [] → parent_walk n.tree path ≡ Err cause → make sizes n 0 b path ≡ (Refused cause, None)
+make_lost n b path cause ne lost = below_root n b path ne ∙ ap (λ (z : Result ℕ Refusal). from_row z (then_make n b path)) lost
 
-at_parent : (n : Now) (b : Bool) (path : List (List ℕ)) (d : ℕ) → path ≢ [] → parent_walk n.tree path ≡ Ok d → make sizes n b path ≡ then_make n b path d
-at_parent n b path d ne found = below_root n b path ne ∙ ap (λ (z : Result ℕ Refusal). in_directory z (then_make n b path)) found
+at_parent : (n : Now) (b : Bool) (path : List (List ℕ)) (d : ℕ) → path ≢ [] → parent_walk n.tree path ≡ Ok d → make sizes n 0 b path ≡ then_make n b path d
+at_parent n b path d ne found = below_root n b path ne ∙ ap (λ (z : Result ℕ Refusal). from_row z (then_make n b path)) found
 
 pub make_exists : (n : Now) (b : Bool) (path : List (List ℕ)) (d : ℕ) → path ≢ [] → parent_walk n.tree path ≡ Ok d → is_some (entry n.tree d (last_of path)) ≡ true
-    → make sizes n b path ≡ (Refused Exists, None)
+    → make sizes n 0 b path ≡ (Refused Exists, None)
 make_exists n b path d ne found there =
-    at_parent n b path d ne found ∙ ap (λ (z : Bool). cond z (refused Exists) (cond (no_inode sizes n) (refused NoInode) (does (Make d (last_of path) n.next b)))) there
+    at_parent n b path d ne found ∙ ap (λ (z : Bool). cond z (refused Exists) (cond (no_inode sizes n 0) (refused NoInode) (does (Make d (last_of path) n.next b)))) there
 
 free_there : (n : Now) (b : Bool) (path : List (List ℕ)) (d : ℕ) → path ≢ [] → parent_walk n.tree path ≡ Ok d → is_some (entry n.tree d (last_of path)) ≡ false
-    → make sizes n b path ≡ cond (no_inode sizes n) (refused NoInode) (does (Make d (last_of path) n.next b))
+    → make sizes n 0 b path ≡ cond (no_inode sizes n 0) (refused NoInode) (does (Make d (last_of path) n.next b))
 free_there n b path d ne found free =
-    at_parent n b path d ne found ∙ ap (λ (z : Bool). cond z (refused Exists) (cond (no_inode sizes n) (refused NoInode) (does (Make d (last_of path) n.next b)))) free
+    at_parent n b path d ne found ∙ ap (λ (z : Bool). cond z (refused Exists) (cond (no_inode sizes n 0) (refused NoInode) (does (Make d (last_of path) n.next b)))) free
 
 pub make_no_inode : (n : Now) (b : Bool) (path : List (List ℕ)) (d : ℕ) → path ≢ [] → parent_walk n.tree path ≡ Ok d → is_some (entry n.tree d (last_of path)) ≡ false
-    → 8191 ≤ len n.tree → make sizes n b path ≡ (Refused NoInode, None)
+    → 8191 ≤ len n.tree → make sizes n 0 b path ≡ (Refused NoInode, None)
 make_no_inode n b path d ne found free many =
-    let none : ltb 8191 (len n.tree + 1) ≡ true = grind (arith, nat_tests) in
+    let none : no_inode sizes n 0 ≡ true = over 8191 (len n.tree + 1 + unsealed_rows (without 0 n.unsealed)) (omega (arith, many)) in
     free_there n b path d ne found free ∙ ap (λ (z : Bool). cond z (refused NoInode) (does (Make d (last_of path) n.next b))) none
 
 pub make_done : (n : Now) (b : Bool) (path : List (List ℕ)) (d : ℕ) → path ≢ [] → parent_walk n.tree path ≡ Ok d → is_some (entry n.tree d (last_of path)) ≡ false
-    → len n.tree < 8191 → make sizes n b path ≡ (Done, Some (Make d (last_of path) n.next b))
-make_done n b path d ne found free few =
-    let some : ltb 8191 (len n.tree + 1) ≡ false = grind (arith, nat_tests) in
+    → OfMakes n.unsealed → len n.tree < 8191 → make sizes n 0 b path ≡ (Done, Some (Make d (last_of path) n.next b))
+make_done n b path d ne found free all few =
+    let rows = others_none n.unsealed all in
+    let some : no_inode sizes n 0 ≡ false = under 8191 (len n.tree + 1 + unsealed_rows (without 0 n.unsealed)) (omega (arith, rows, few)) in
     free_there n b path d ne found free ∙ ap (λ (z : Bool). cond z (refused NoInode) (does (Make d (last_of path) n.next b))) some
+
+-- the row that is made next, by the number of rows
+pub make_next : (n : Now) (t : Rows) (s w : ℕ) (b : Bool) (path : List (List ℕ)) (d : ℕ) (name : List ℕ) (rows : ℕ) → Stands n t s w → path ≢ [] → parent_walk t path ≡ Ok d → last_of path ≡ name
+    → is_some (entry t d name) ≡ false → rows ≡ len t → rows < 8191 → make sizes n 0 b path ≡ (Done, Some (Make d name rows b))
+make_next n t s w b path d name rows stands ne found last free all few =
+    let lent = ap len stands.tree in
+    let next : n.next ≡ rows = stands.next ∙ sym lent ∙ sym all in
+    make_done n b path d ne (ap (λ (z : Rows). parent_walk z path) (sym stands.tree) ∙ found)
+    (ap (λ (z : Rows). is_some (entry z d (last_of path))) (sym stands.tree) ∙ ap (λ (z : List ℕ). is_some (entry t d z)) last ∙ free)
+    stands.of_makes (omega (arith, lent, all, few))
+    ∙ ap (λ (z : List ℕ). (Done, Some (Make d z n.next b))) last ∙ ap (λ (z : ℕ). (Done, Some (Make d name z b))) next
 
 none_of : (o : Option ℕ) → is_some o ≡ false → is_none o ≡ true
 none_of None is = refl
@@ -113,86 +126,132 @@ make_applies t path name d b made found free =
 
 -- ---- what stands once a call is entered
 
-abbrev entry_with : ℕ → Command → Answer → Entry
-entry_with a c ans = record { actor = a; stream = 0; command = c; reply = ans.0; update = ans.1 }
+-- the entry of an actor that is answered so
+abbrev entry_with : Now → ℕ → Command → Answer → Entry
+entry_with n a c ans = record { actor = a; stream = stream_in n.choices a; command = c; reply = ans.0; update = ans.1 }
 
-stands_refused : (n : Now) (t : Rows) (s w a : ℕ) (c : Command) (cause : Refusal) → unsealed_after n.unsealed (entry_steps n 0 c None) ≡ n.unsealed → closes (entry_steps n 0 c None) ≡ 0
-    → Stands n t s w → Stands (entered_by n (entry_with a c (Refused cause, None))) t s w
-stands_refused n t s w a c cause kept quiet stands = record {
-  tree = stands.tree;
-  seals = omega (arith, stands.seals, quiet);
-  unsealed = stands.unsealed ∙ ap (λ (z : List (ℕ × Update)). length z) (sym kept);
-  few = stands.few;
-  one_stream = subst OfOne (sym kept) stands.one_stream;
-  next = omega (arith, stands.next);
-  made = stands.made;
-}
+-- mkdir and create, in the actor's stream
+in_stream : (n : Now) (a : ℕ) (b : Bool) (path : List (List ℕ)) (ans : Answer) → n.choices ≡ [] → make sizes n 0 b path ≡ ans → make sizes n (stream_in n.choices a) b path ≡ ans
+in_stream n a b path ans none is = ap (λ (z : ℕ). make sizes n z b path) (in_zero n a none) ∙ is
 
-pub performed_refused : (n : Now) (t : Rows) (size s w a : ℕ) (b : Bool) (path : List (List ℕ)) (cause : Refusal) → make sizes n b path ≡ (Refused cause, None) → Stands n t s w
+stands_refused : (n : Now) (t : Rows) (s w a : ℕ) (c : Command) (cause : Refusal) → steps_by sizes n (entry_with n a c (Refused cause, None)) ≡ [] → choices_by n.choices a c ≡ n.choices
+    → Stands n t s w → Stands (entered_by sizes n (entry_with n a c (Refused cause, None))) t s w
+stands_refused n t s w a c cause none chosen stands =
+    let kept : unsealed_after n.unsealed (steps_by sizes n (entry_with n a c (Refused cause, None))) ≡ n.unsealed = ap (unsealed_after n.unsealed) none in
+    let quiet : closes (steps_by sizes n (entry_with n a c (Refused cause, None))) ≡ 0 = ap closes none in
+    record {
+      tree = stands.tree;
+      seals = omega (arith, stands.seals, quiet);
+      choices = chosen ∙ stands.choices;
+      unsealed = stands.unsealed ∙ ap (λ (z : List (ℕ × Charged)). length z) (sym kept);
+      few = stands.few;
+      of_makes = subst OfMakes (sym kept) stands.of_makes;
+      next = omega (arith, stands.next);
+      made = stands.made;
+    }
+
+pub performed_refused : (n : Now) (t : Rows) (size s w a : ℕ) (b : Bool) (path : List (List ℕ)) (cause : Refusal) → make sizes n 0 b path ≡ (Refused cause, None) → Stands n t s w
     → Answered size n a (make_command b path) (Refused cause) t s w
-performed_refused n t size s w a true path cause is stands = record {
-  reply = ap (λ (z : Answer). z.0) (sym is);
-  unblocked = ap (λ (z : Answer). forces_a_seal n 0 z.1) is;
-  stands = subst (λ (z : Answer). Stands (entered_by n (entry_with a (Mkdir path) z)) t s w) (sym is) (stands_refused n t s w a (Mkdir path) cause refl refl stands);
-}
-performed_refused n t size s w a false path cause is stands = record {
-  reply = ap (λ (z : Answer). z.0) (sym is);
-  unblocked = ap (λ (z : Answer). forces_a_seal n 0 z.1) is;
-  stands = subst (λ (z : Answer). Stands (entered_by n (entry_with a (Create path) z)) t s w) (sym is) (stands_refused n t s w a (Create path) cause refl refl stands);
-}
+performed_refused n t size s w a true path cause is0 stands =
+    let is = in_stream n a true path (Refused cause, None) stands.choices is0 in
+    record {
+      reply = ap (λ (z : Answer). z.0) (sym is);
+      unblocked = ap (λ (z : Answer). forces_a_seal n (stream_in n.choices a) z.1) is;
+      stands = subst (λ (z : Answer). Stands (entered_by sizes n (entry_with n a (Mkdir path) z)) t s w) (sym is) (stands_refused n t s w a (Mkdir path) cause refl refl stands);
+    }
+performed_refused n t size s w a false path cause is0 stands =
+    let is = in_stream n a false path (Refused cause, None) stands.choices is0 in
+    record {
+      reply = ap (λ (z : Answer). z.0) (sym is);
+      unblocked = ap (λ (z : Answer). forces_a_seal n (stream_in n.choices a) z.1) is;
+      stands = subst (λ (z : Answer). Stands (entered_by sizes n (entry_with n a (Create path) z)) t s w) (sym is) (stands_refused n t s w a (Create path) cause refl refl stands);
+    }
 
-stands_made : (n : Now) (t t' : Rows) (s w a : ℕ) (c : Command) (u : Update) → Stands n t s w → w < 512 → serial_of u ≡ len t → is_name (name_of u) ≡ true → IsTrue (applies t u) → t' ≡ apply t u
-    → Stands (entered_by n (entry_with a c (Done, Some u))) t' s (w + 1)
-stands_made n t t' s w a c (Make d name x b) stands few serial spelled fits made =
-    let steps = closing (seals_own n 0 (Make d name x b)) 0 ++ Enter 0 (Make d name x b) ∷ [] in
-    let quiet : seals_own n 0 (Make d name x b) ≡ false = not_full n (Make d name x b) stands.one_stream (omega (arith, stands.unsealed)) in
-    let l : steps ≡ Enter 0 (Make d name x b) ∷ [] = ap (λ (z : Bool). closing z 0 ++ Enter 0 (Make d name x b) ∷ []) quiet in
-    let more : unsealed_after n.unsealed steps ≡ (0, Make d name x b) ∷ n.unsealed = ap (unsealed_after n.unsealed) l in
-    let none : closes steps ≡ 0 = ap closes l in
+first : (a b : Bool) → IsTrue (a && b) → IsTrue a
+first true b is = refl
+first false b is = absurd (cc is)
+
+-- an update that makes the next row seals nothing, where fewer than 512 are unsealed
+free_made : (n : Now) (t : Rows) (s w a : ℕ) (u : Update) → Stands n t s w → w < 512 → len t < 8191 → serial_of u ≡ len t → is_name (name_of u) ≡ true → IsTrue (applies t u)
+    → forces_a_seal n (stream_in n.choices a) (Some u) ≡ false
+free_made n t s w a (Make d name x b) stands few room serial spelled fits =
+    let lent = ap len stands.tree in
     let dir : IsTrue (is_dir_at t d) = first (is_dir_at t d) (is_none (entry t d name) && is_none (get t x)) fits in
-    let in_n : IsMade t = subst IsMade (sym stands.tree) stands.made in
-    let grown : len (apply t (Make d name x b)) ≡ len t + 1 = make_len t d x name b dir (in_n.dense x (omega (arith, serial))) in
-    let keeps : IsMade (apply t (Make d name x b)) = make_keeps t d x name b in_n serial dir spelled in
-    let same : apply t (Make d name x b) ≡ apply n.tree (Make d name x b) = ap (λ (z : Rows). apply z (Make d name x b)) stands.tree in
-    let lens = ap len same in let lent = ap len stands.tree in
+    ap (λ (z : ℕ). forces_a_seal n z (Some (Make d name x b))) (in_zero n a stands.choices)
+    ∙ not_full n.tree d x name b stands.made (subst (λ (z : Rows). IsTrue (is_dir_at z d)) stands.tree dir) (serial ∙ lent) spelled n.unsealed stands.of_makes
+    (omega (arith, room, lent)) (omega (arith, stands.unsealed))
+free_made n t s w a (Write id off bytes) stands few room serial spelled fits = absurd (cc spelled)
+free_made n t s w a (Resize id size) stands few room serial spelled fits = absurd (cc spelled)
+free_made n t s w a (Remove dir name id stays) stands few room serial spelled fits = absurd (cc spelled)
+free_made n t s w a (Move dir name to_dir to_name id is_dir replaced stays) stands few room serial spelled fits = absurd (cc spelled)
+free_made n t s w a (Release id) stands few room serial spelled fits = absurd (cc spelled)
+
+stands_made : (n : Now) (t t' : Rows) (s w a : ℕ) (c : Command) (u : Update) → choices_by n.choices a c ≡ n.choices → Stands n t s w → w < 512 → len t < 8191
+    → serial_of u ≡ len t → is_name (name_of u) ≡ true → IsTrue (applies t u) → t' ≡ apply t u → Stands (entered_by sizes n (entry_with n a c (Done, Some u))) t' s (w + 1)
+stands_made n t t' s w a c (Make d name x b) chosen stands few room serial spelled fits made =
+    let u : Update = Make d name x b in
+    let steps : List (Step Charged) = call_steps sizes n.tree n.unsealed (Accepted (stream_in n.choices a) u) in
+    let l : steps ≡ Enter 0 (u, charge n.tree u) ∷ [] =
+    accepted_alone n (stream_in n.choices a) u (in_zero n a stands.choices) stands.of_makes (free_made n t s w a u stands few room serial spelled fits) in
+    let more : unsealed_after n.unsealed steps ≡ (0, (u, charge n.tree u)) ∷ n.unsealed = ap (unsealed_after n.unsealed) l in
+    let none : closes steps ≡ 0 = ap closes l in
+    let lent = ap len stands.tree in
+    let dir : IsTrue (is_dir_at n.tree d) = subst (λ (z : Rows). IsTrue (is_dir_at z d)) stands.tree (first (is_dir_at t d) (is_none (entry t d name) && is_none (get t x)) fits) in
+    let grown : len (apply n.tree u) ≡ len n.tree + 1 = make_len n.tree d x name b dir (stands.made.dense x (omega (arith, serial, lent))) in
+    let same : apply t u ≡ apply n.tree u = ap (λ (z : Rows). apply z u) stands.tree in
     record {
       tree = made ∙ same;
       seals = omega (arith, stands.seals, none);
-      unsealed = let z = ap (λ (z : List (ℕ × Update)). length z) more in omega (arith, z, stands.unsealed);
+      choices = chosen ∙ stands.choices;
+      unsealed = let z = ap (λ (z : List (ℕ × Charged)). length z) more in omega (arith, z, stands.unsealed);
       few = omega arith;
-      one_stream = subst OfOne (sym more) (refl, stands.one_stream);
-      next = omega (arith, stands.next, grown, lens, lent);
-      made = subst IsMade same keeps;
+      of_makes = subst OfMakes (sym more) (of_make n.tree d x name b stands.made dir (serial ∙ lent) spelled, stands.of_makes);
+      next = omega (arith, stands.next, grown);
+      made = make_keeps n.tree d x name b stands.made (serial ∙ lent) dir spelled;
     }
-  where
-    first : (a b : Bool) → IsTrue (a && b) → IsTrue a
-    first true b is = refl
-    first false b is = absurd (cc is)
-stands_made n t t' s w a c (Write id off bytes) stands few serial spelled fits made = absurd (cc spelled)
-stands_made n t t' s w a c (Resize id size) stands few serial spelled fits made = absurd (cc spelled)
-stands_made n t t' s w a c (Remove dir name id stays) stands few serial spelled fits made = absurd (cc spelled)
-stands_made n t t' s w a c (Move dir name to_dir to_name id is_dir replaced stays) stands few serial spelled fits made = absurd (cc spelled)
-stands_made n t t' s w a c (Release id) stands few serial spelled fits made = absurd (cc spelled)
+stands_made n t t' s w a c (Write id off bytes) chosen stands few room serial spelled fits made = absurd (cc spelled)
+stands_made n t t' s w a c (Resize id size) chosen stands few room serial spelled fits made = absurd (cc spelled)
+stands_made n t t' s w a c (Remove dir name id stays) chosen stands few room serial spelled fits made = absurd (cc spelled)
+stands_made n t t' s w a c (Move dir name to_dir to_name id is_dir replaced stays) chosen stands few room serial spelled fits made = absurd (cc spelled)
+stands_made n t t' s w a c (Release id) chosen stands few room serial spelled fits made = absurd (cc spelled)
 
-pub performed_made : (n : Now) (t t' : Rows) (size s w a : ℕ) (b : Bool) (path : List (List ℕ)) (u : Update) → make sizes n b path ≡ (Done, Some u) → Stands n t s w → w < 512
+pub performed_made : (n : Now) (t t' : Rows) (size s w a : ℕ) (b : Bool) (path : List (List ℕ)) (u : Update) → make sizes n 0 b path ≡ (Done, Some u) → Stands n t s w → w < 512 → len t < 8191
     → serial_of u ≡ len t → is_name (name_of u) ≡ true → IsTrue (applies t u) → t' ≡ apply t u → Answered size n a (make_command b path) Done t' s (w + 1)
-performed_made n t t' size s w a true path u is stands few serial spelled fits made = record {
-  reply = ap (λ (z : Answer). z.0) (sym is);
-  unblocked = ap (λ (z : Answer). forces_a_seal n 0 z.1) is ∙ not_full n u stands.one_stream (omega (arith, stands.unsealed));
-  stands = subst (λ (z : Answer). Stands (entered_by n (entry_with a (Mkdir path) z)) t' s (w + 1)) (sym is) (stands_made n t t' s w a (Mkdir path) u stands few serial spelled fits made);
-}
-performed_made n t t' size s w a false path u is stands few serial spelled fits made = record {
-  reply = ap (λ (z : Answer). z.0) (sym is);
-  unblocked = ap (λ (z : Answer). forces_a_seal n 0 z.1) is ∙ not_full n u stands.one_stream (omega (arith, stands.unsealed));
-  stands = subst (λ (z : Answer). Stands (entered_by n (entry_with a (Create path) z)) t' s (w + 1)) (sym is) (stands_made n t t' s w a (Create path) u stands few serial spelled fits made);
-}
+performed_made n t t' size s w a true path u is0 stands few room serial spelled fits made =
+    let is = in_stream n a true path (Done, Some u) stands.choices is0 in
+    record {
+      reply = ap (λ (z : Answer). z.0) (sym is);
+      unblocked = ap (λ (z : Answer). forces_a_seal n (stream_in n.choices a) z.1) is ∙ free_made n t s w a u stands few room serial spelled fits;
+      stands = subst (λ (z : Answer). Stands (entered_by sizes n (entry_with n a (Mkdir path) z)) t' s (w + 1)) (sym is)
+          (stands_made n t t' s w a (Mkdir path) u refl stands few room serial spelled fits made);
+    }
+performed_made n t t' size s w a false path u is0 stands few room serial spelled fits made =
+    let is = in_stream n a false path (Done, Some u) stands.choices is0 in
+    record {
+      reply = ap (λ (z : Answer). z.0) (sym is);
+      unblocked = ap (λ (z : Answer). forces_a_seal n (stream_in n.choices a) z.1) is ∙ free_made n t s w a u stands few room serial spelled fits;
+      stands = subst (λ (z : Answer). Stands (entered_by sizes n (entry_with n a (Create path) z)) t' s (w + 1)) (sym is)
+          (stands_made n t t' s w a (Create path) u refl stands few room serial spelled fits made);
+    }
 
-pub blocked_make : (n : Now) (t : Rows) (size s w a : ℕ) (b : Bool) (path : List (List ℕ)) (u : Update) → make sizes n b path ≡ (Done, Some u) → Stands n t s w → 512 ≤ w
+forced : (n : Now) (t : Rows) (s w a : ℕ) (u : Update) → Stands n t s w → 512 ≤ w → forces_a_seal n (stream_in n.choices a) (Some u) ≡ true
+forced n t s w a u stands many = ap (λ (z : ℕ). forces_a_seal n z (Some u)) (in_zero n a stands.choices) ∙ full n.tree u n.unsealed stands.of_makes (omega (arith, stands.unsealed))
+
+pub blocked_make : (n : Now) (t : Rows) (size s w a : ℕ) (b : Bool) (path : List (List ℕ)) (u : Update) → make sizes n 0 b path ≡ (Done, Some u) → Stands n t s w → 512 ≤ w
     → is_blocked size n a (make_command b path) ≡ true
-blocked_make n t size s w a true path u is stands many = ap (λ (z : Answer). forces_a_seal n 0 z.1) is ∙ full n u stands.one_stream (omega (arith, stands.unsealed))
-blocked_make n t size s w a false path u is stands many = ap (λ (z : Answer). forces_a_seal n 0 z.1) is ∙ full n u stands.one_stream (omega (arith, stands.unsealed))
+blocked_make n t size s w a true path u is stands many =
+    ap (λ (z : Answer). forces_a_seal n (stream_in n.choices a) z.1) (in_stream n a true path (Done, Some u) stands.choices is) ∙ forced n t s w a u stands many
+blocked_make n t size s w a false path u is stands many =
+    ap (λ (z : Answer). forces_a_seal n (stream_in n.choices a) z.1) (in_stream n a false path (Done, Some u) stands.choices is) ∙ forced n t s w a u stands many
 
 -- ---- streamsync
+
+-- the actor's stream is sealed
+sync_steps : (n : Now) (a : ℕ) → n.choices ≡ [] → call_steps sizes n.tree n.unsealed (SyncStream (stream_in n.choices a)) ≡ sealing (0 ∷ []) n.unsealed
+sync_steps n a none = ap (λ (z : ℕ). call_steps sizes n.tree n.unsealed (SyncStream z)) (in_zero n a none)
+
+open_in : (n : Now) (a : ℕ) (b : Bool) → n.choices ≡ [] → is_open n.unsealed 0 ≡ b → is_open n.unsealed (stream_in n.choices a) ≡ b
+open_in n a b none is = ap (is_open n.unsealed) (in_zero n a none) ∙ is
 
 -- the length of a picture's bytes doesn't hang on its number
 pub length_plain : (k m : ℕ) (p : List Item) → length (plain_bytes k p) ≡ length (plain_bytes m p)
@@ -201,18 +260,20 @@ length_plain k m p = refl
 pub synced_quiet : (n : Now) (t : Rows) (size s w a : ℕ) → Stands n t s w → w ≡ 0 → Answered size n a StreamSync (Synced s) t s w
 synced_quiet n t size s w a stands none =
     let shut : is_open n.unsealed 0 ≡ false = open_none n.unsealed (omega (arith, stands.unsealed)) in
-    let steps : closing (is_open n.unsealed 0) 0 ≡ [] = ap (λ (z : Bool). closing z 0) shut in
-    let quiet : closes (closing (is_open n.unsealed 0) 0) ≡ 0 = ap closes steps in
-    let kept : unsealed_after n.unsealed (closing (is_open n.unsealed 0) 0) ≡ n.unsealed = ap (unsealed_after n.unsealed) steps in
+    let done : List (Step Charged) = call_steps sizes n.tree n.unsealed (SyncStream (stream_in n.choices a)) in
+    let steps : done ≡ [] = sync_steps n a stands.choices ∙ sealing_none n.unsealed shut in
+    let quiet : closes done ≡ 0 = ap closes steps in
+    let kept : unsealed_after n.unsealed done ≡ n.unsealed = ap (unsealed_after n.unsealed) steps in
     record {
       reply = ap Synced (omega (arith, stands.seals, quiet));
-      unblocked = ap (λ (z : Bool). z && ltb size (length (plain_bytes 0 (picture n.tree)))) shut;
+      unblocked = ap (λ (z : Bool). z && ltb size (length (plain_bytes 0 (picture n.tree)))) (open_in n a false stands.choices shut);
       stands = record {
         tree = stands.tree;
         seals = omega (arith, stands.seals, quiet);
-        unsealed = stands.unsealed ∙ ap (λ (z : List (ℕ × Update)). length z) (sym kept);
+        choices = stands.choices;
+        unsealed = stands.unsealed ∙ ap (λ (z : List (ℕ × Charged)). length z) (sym kept);
         few = stands.few;
-        one_stream = subst OfOne (sym kept) stands.one_stream;
+        of_makes = subst OfMakes (sym kept) stands.of_makes;
         next = omega (arith, stands.next);
         made = stands.made;
       };
@@ -220,38 +281,36 @@ synced_quiet n t size s w a stands none =
 
 pub synced_sealed : (n : Now) (t : Rows) (size number s w a : ℕ) → Stands n t s w → 0 < w → length (plain_bytes number (picture t)) ≤ size → Answered size n a StreamSync (Synced (s + 1)) t (s + 1) 0
 synced_sealed n t size number s w a stands some fits =
-    let open_ : is_open n.unsealed 0 ≡ true = open_some n.unsealed stands.one_stream (omega (arith, stands.unsealed)) in
-    let steps : closing (is_open n.unsealed 0) 0 ≡ Seal 0 ∷ [] = ap (λ (z : Bool). closing z 0) open_ in
-    let one : closes (closing (is_open n.unsealed 0) 0) ≡ 1 = ap closes steps in
-    let none : unsealed_after n.unsealed (closing (is_open n.unsealed 0) 0) ≡ [] = ap (unsealed_after n.unsealed) steps ∙ none_left n.unsealed stands.one_stream in
+    let open_ : is_open n.unsealed 0 ≡ true = open_some n.unsealed stands.of_makes (omega (arith, stands.unsealed)) in
+    let done : List (Step Charged) = call_steps sizes n.tree n.unsealed (SyncStream (stream_in n.choices a)) in
+    let steps : done ≡ Seal 0 ∷ [] = sync_steps n a stands.choices ∙ sealing_one n.unsealed open_ in
+    let one : closes done ≡ 1 = ap closes steps in
+    let none : unsealed_after n.unsealed done ≡ [] = ap (unsealed_after n.unsealed) steps ∙ none_left n.unsealed stands.of_makes in
     let same = ap (λ (z : Rows). length (plain_bytes 0 (picture z))) stands.tree in
     let longs = length_plain number 0 (picture t) in
     record {
       reply = ap Synced (omega (arith, stands.seals, one));
-      unblocked = ap (λ (z : Bool). z && ltb size (length (plain_bytes 0 (picture n.tree)))) open_ ∙ fits_in (length (plain_bytes 0 (picture n.tree))) size (omega (arith, fits, same, longs));
+      unblocked = ap (λ (z : Bool). z && ltb size (length (plain_bytes 0 (picture n.tree)))) (open_in n a true stands.choices open_)
+          ∙ under size (length (plain_bytes 0 (picture n.tree))) (omega (arith, fits, same, longs));
       stands = record {
         tree = stands.tree;
         seals = omega (arith, stands.seals, one);
-        unsealed = sym (ap (λ (z : List (ℕ × Update)). length z) none);
+        choices = stands.choices;
+        unsealed = sym (ap (λ (z : List (ℕ × Charged)). length z) none);
         few = omega arith;
-        one_stream = subst OfOne (sym none) tt;
+        of_makes = subst OfMakes (sym none) tt;
         next = omega (arith, stands.next);
         made = stands.made;
       };
     }
-  where
-    fits_in : (m k : ℕ) → m ≤ k → ltb k m ≡ false
-    fits_in m k le = grind (arith, nat_tests)
 
 pub blocked_sync : (n : Now) (t : Rows) (size number s w a : ℕ) → Stands n t s w → 0 < w → size < length (plain_bytes number (picture t)) → is_blocked size n a StreamSync ≡ true
 blocked_sync n t size number s w a stands some past =
-    let open_ : is_open n.unsealed 0 ≡ true = open_some n.unsealed stands.one_stream (omega (arith, stands.unsealed)) in
+    let open_ : is_open n.unsealed 0 ≡ true = open_some n.unsealed stands.of_makes (omega (arith, stands.unsealed)) in
     let same = ap (λ (z : Rows). length (plain_bytes 0 (picture z))) stands.tree in
     let longs = length_plain number 0 (picture t) in
-    ap (λ (z : Bool). z && ltb size (length (plain_bytes 0 (picture n.tree)))) open_ ∙ past_it (length (plain_bytes 0 (picture n.tree))) size (omega (arith, past, same, longs))
-  where
-    past_it : (m k : ℕ) → k < m → ltb k m ≡ true
-    past_it m k lt = grind (arith, nat_tests)
+    ap (λ (z : Bool). z && ltb size (length (plain_bytes 0 (picture n.tree)))) (open_in n a true stands.choices open_)
+    ∙ over size (length (plain_bytes 0 (picture n.tree))) (omega (arith, past, same, longs))
 
 -- ---- names of paths
 

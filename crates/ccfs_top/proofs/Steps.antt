@@ -1,11 +1,9 @@
 -- One call more in a run.
 use Rattle.std.proofs.Common.{◌≡◌, ℕ, ◌+◌, ◌≤◌, ◌<◌, Bool, true, false, cond, List, [], ◌∷◌, ◌++◌, length, take, drop, get_or, refl, sym, ap, ◌∙◌, subst, arith, append_assoc}
 use Rattle.std.proofs.lemmas.List.{append-nil, take_more, drop_more, drop_all, map-append}
-use Rattle.std.specs.declared.option.Option.{Option}
 use Rattle.std.specs.declared.option.Option.TheVariants.{None, Some}
 use Rattle.std.specs.declared.result.Result.{Result}
 use Rattle.std.specs.declared.result.Result.TheVariants.{Ok, Err}
-use Rattle.stream_cuts.specs.Streams.{Enter}
 use Rattle.ccfs_base.specs.declared.commands.Command.{Command}
 use Rattle.ccfs_base.specs.declared.commands.Command.TheVariants as command
 use Rattle.ccfs_base.specs.declared.replies.Refusal.{Refusal}
@@ -17,14 +15,17 @@ use Rattle.tree_model.specs.Walk.{last_of, parent_walk}
 use Rattle.tree_model.specs.declared.rows.Update.{Update}
 use Rattle.tree_model.specs.declared.rows.Entry.{Entry}
 use Rattle.tree_model.specs.Rows.{Rows}
-use Rattle.history_model.specs.Answers.{Now, Answer, make, in_directory, entry_steps, closing, closes, seals_own, is_root, refused, does, no_inode}
-use Rattle.history_model.specs.Histories.{entered_by, entry_of, now_after, hist, seal_count, tree_at, synced_number, durable}
+use Rattle.tree_cuts.specs.Calls.{Accepted, call_steps}
+use Rattle.history_model.specs.State.{Now, stream_in}
+use Rattle.history_model.specs.Answers.{Answer, make, from_row, closes, is_root, refused, does, no_inode}
+use Rattle.history_model.specs.Histories.{steps_by, entered_by, entry_of, now_after, hist, seal_count, tree_at, synced_number, durable}
 use Rattle.history_model.proofs.Longer.{hist_append, hist_more, now_more, durable_more, longer_trees, last_cut, seals_counted}
 use Rattle.script_text.specs.declared.scripts.Call.{Call}
 use Rattle.ccfs_top.specs.Stages.{sizes, is_blocked, forces_a_seal}
 use Rattle.ccfs_top.specs.Runs.{asked, history, made, stopped, line_of, reply_lines}
 use Rattle.ccfs_top.specs.Ends.{joined}
 use Rattle.ccfs_top.specs.Sessions.{Stands, Performed}
+use Rattle.ccfs_top.proofs.Weighing.{in_zero, accepted_alone}
 use Rattle.ccfs_top.specs.Reached.{history_to, now_at, Reached}
 
 -- ---- what a reply acknowledges
@@ -33,59 +34,69 @@ plain_if : (d : ℕ) (b : Bool) (x y : Answer) → synced_number d x.0 ≡ d →
 plain_if d true x y p q = p
 plain_if d false x y p q = q
 
-plain_in : (d : ℕ) (r : Result ℕ Refusal) (f : ℕ → Answer) → ((x : ℕ) → synced_number d (f x).0 ≡ d) → synced_number d (in_directory r f).0 ≡ d
+plain_in : (d : ℕ) (r : Result ℕ Refusal) (f : ℕ → Answer) → ((x : ℕ) → synced_number d (f x).0 ≡ d) → synced_number d (from_row r f).0 ≡ d
 plain_in d (Ok x) f p = p x
 plain_in d (Err cause) f p = refl
 
-abbrev if_inode : Now → Bool → List (List ℕ) → ℕ → Answer
-if_inode n b path x = cond (no_inode sizes n) (refused NoInode) (does (Make x (last_of path) n.next b))
+abbrev if_inode : Now → ℕ → Bool → List (List ℕ) → ℕ → Answer
+if_inode n s b path x = cond (no_inode sizes n s) (refused NoInode) (does (Make x (last_of path) n.next b))
 
-abbrev then_make : Now → Bool → List (List ℕ) → ℕ → Answer
-then_make n b path x = cond (is_some (entry n.tree x (last_of path))) (refused Exists) (if_inode n b path x)
+abbrev then_make : Now → ℕ → Bool → List (List ℕ) → ℕ → Answer
+then_make n s b path x = cond (is_some (entry n.tree x (last_of path))) (refused Exists) (if_inode n s b path x)
 
 -- mkdir and create acknowledge nothing
-plain_make : (d : ℕ) (n : Now) (b : Bool) (path : List (List ℕ)) → synced_number d (make sizes n b path).0 ≡ d
-plain_make d n b path =
-    plain_if d (is_root path) (refused Exists) (in_directory (parent_walk n.tree path) (then_make n b path)) refl (plain_in d (parent_walk n.tree path) (then_make n b path) (λ x.
-    plain_if d (is_some (entry n.tree x (last_of path))) (refused Exists) (if_inode n b path x) refl
-    (plain_if d (no_inode sizes n) (refused NoInode) (does (Make x (last_of path) n.next b)) refl refl)))
+plain_make : (d : ℕ) (n : Now) (s : ℕ) (b : Bool) (path : List (List ℕ)) → synced_number d (make sizes n s b path).0 ≡ d
+plain_make d n s b path =
+    plain_if d (is_root path) (refused Exists) (from_row (parent_walk n.tree path) (then_make n s b path)) refl (plain_in d (parent_walk n.tree path) (then_make n s b path) (λ x.
+    plain_if d (is_some (entry n.tree x (last_of path))) (refused Exists) (if_inode n s b path x) refl
+    (plain_if d (no_inode sizes n s) (refused NoInode) (does (Make x (last_of path) n.next b)) refl refl)))
 
-no_seal : (n : Now) (s : ℕ) (u : Update) → seals_own n s u ≡ false → closes (closing (seals_own n s u) s ++ Enter s u ∷ []) ≡ 0
-no_seal n s u is = ap (λ (b : Bool). closes (closing b s ++ Enter s u ∷ [])) is
+-- an entry of an actor, with a reply and an update or none
+abbrev entry_with : Now → ℕ → Command → Answer → Entry
+entry_with n a c ans = record { actor = a; stream = stream_in n.choices a; command = c; reply = ans.0; update = ans.1 }
 
-quiet_mkdir : (n : Now) (s : ℕ) (path : List (List ℕ)) (o : Option Update) → forces_a_seal n s o ≡ false → closes (entry_steps n s (command.Mkdir path) o) ≡ 0
-quiet_mkdir n s path None is = refl
-quiet_mkdir n s path (Some u) is = no_seal n s u is
+no_seal : (n : Now) (t : Rows) (sealed waiting a : ℕ) (u : Update) → Stands n t sealed waiting → forces_a_seal n (stream_in n.choices a) (Some u) ≡ false
+    → closes (call_steps sizes n.tree n.unsealed (Accepted (stream_in n.choices a) u)) ≡ 0
+no_seal n t sealed waiting a u stands free = ap closes (accepted_alone n (stream_in n.choices a) u (in_zero n a stands.choices) stands.of_makes free)
 
-quiet_create : (n : Now) (s : ℕ) (path : List (List ℕ)) (o : Option Update) → forces_a_seal n s o ≡ false → closes (entry_steps n s (command.Create path) o) ≡ 0
-quiet_create n s path None is = refl
-quiet_create n s path (Some u) is = no_seal n s u is
+quiet_mkdir : (n : Now) (t : Rows) (sealed waiting a : ℕ) (path : List (List ℕ)) (ans : Answer) → Stands n t sealed waiting → forces_a_seal n (stream_in n.choices a) ans.1 ≡ false
+    → closes (steps_by sizes n (entry_with n a (command.Mkdir path) ans)) ≡ 0
+quiet_mkdir n t sealed waiting a path (r, None) stands free = refl
+quiet_mkdir n t sealed waiting a path (r, Some u) stands free = no_seal n t sealed waiting a u stands free
+
+quiet_create : (n : Now) (t : Rows) (sealed waiting a : ℕ) (path : List (List ℕ)) (ans : Answer) → Stands n t sealed waiting → forces_a_seal n (stream_in n.choices a) ans.1 ≡ false
+    → closes (steps_by sizes n (entry_with n a (command.Create path) ans)) ≡ 0
+quiet_create n t sealed waiting a path (r, None) stands free = refl
+quiet_create n t sealed waiting a path (r, Some u) stands free = no_seal n t sealed waiting a u stands free
 
 -- after a call that wasn't blocked, what is durable is what was sealed, if it was so before
-pub durable_on : (size : ℕ) (n : Now) (a : ℕ) (c : Command) (d : ℕ) → is_blocked size n a c ≡ false → d ≡ n.seals → synced_number d (entry_of sizes n a c).reply ≡ (entered_by n (entry_of sizes n a c)).seals
-durable_on size n a (command.Mkdir path) d free is =
-    let quiet = quiet_mkdir n 0 path (make sizes n true path).1 free in plain_make d n true path ∙ omega (arith, is, quiet)
-durable_on size n a (command.Create path) d free is =
-    let quiet = quiet_create n 0 path (make sizes n false path).1 free in plain_make d n false path ∙ omega (arith, is, quiet)
-durable_on size n a command.StreamSync d free is = refl
-durable_on size n a c d free is = absurd (cc)
+pub durable_on : (size : ℕ) (n : Now) (t : Rows) (sealed waiting a : ℕ) (c : Command) (d : ℕ) → Stands n t sealed waiting → is_blocked size n a c ≡ false → d ≡ n.seals
+    → synced_number d (entry_of sizes n a c).reply ≡ (entered_by sizes n (entry_of sizes n a c)).seals
+durable_on size n t sealed waiting a (command.Mkdir path) d stands free is =
+    let quiet = quiet_mkdir n t sealed waiting a path (make sizes n (stream_in n.choices a) true path) stands free in
+    plain_make d n (stream_in n.choices a) true path ∙ omega (arith, is, quiet)
+durable_on size n t sealed waiting a (command.Create path) d stands free is =
+    let quiet = quiet_create n t sealed waiting a path (make sizes n (stream_in n.choices a) false path) stands free in
+    plain_make d n (stream_in n.choices a) false path ∙ omega (arith, is, quiet)
+durable_on size n t sealed waiting a command.StreamSync d stands free is = refl
+durable_on size n t sealed waiting a c d stands free is = absurd (cc)
 
 -- ---- the tree that is durable
 
-pub quiet_tree : (n0 : Now) (h : List Entry) (e : Entry) → n0.seals ≡ 0 → (entered_by (now_after n0 h) e).seals ≡ (now_after n0 h).seals
-    → tree_at n0 (h ++ e ∷ []) (entered_by (now_after n0 h) e).seals ≡ tree_at n0 h (now_after n0 h).seals
+pub quiet_tree : (n0 : Now) (h : List Entry) (e : Entry) → n0.seals ≡ 0 → (entered_by sizes (now_after sizes n0 h) e).seals ≡ (now_after sizes n0 h).seals
+    → tree_at sizes n0 (h ++ e ∷ []) (entered_by sizes (now_after sizes n0 h) e).seals ≡ tree_at sizes n0 h (now_after sizes n0 h).seals
 quiet_tree n0 h e fresh same =
-    let counted = seals_counted n0 h in
-    ap (tree_at n0 (h ++ e ∷ [])) same ∙ longer_trees n0 h (e ∷ []) (now_after n0 h).seals (omega (arith, counted, fresh))
+    let counted = seals_counted sizes n0 h in
+    ap (tree_at sizes n0 (h ++ e ∷ [])) same ∙ longer_trees sizes n0 h (e ∷ []) (now_after sizes n0 h).seals (omega (arith, counted, fresh))
 
-pub sealed_tree : (n0 : Now) (h : List Entry) (e : Entry) → n0.unsealed ≡ [] → n0.seals ≡ 0 → (entered_by (now_after n0 h) e).unsealed ≡ []
-    → tree_at n0 (h ++ e ∷ []) (entered_by (now_after n0 h) e).seals ≡ (entered_by (now_after n0 h) e).tree
+pub sealed_tree : (n0 : Now) (h : List Entry) (e : Entry) → n0.unsealed ≡ [] → n0.seals ≡ 0 → (entered_by sizes (now_after sizes n0 h) e).unsealed ≡ []
+    → tree_at sizes n0 (h ++ e ∷ []) (entered_by sizes (now_after sizes n0 h) e).seals ≡ (entered_by sizes (now_after sizes n0 h) e).tree
 sealed_tree n0 h e start fresh now =
-    let one : now_after n0 (h ++ e ∷ []) ≡ entered_by (now_after n0 h) e = now_more n0 h e in
-    let counted : (entered_by (now_after n0 h) e).seals ≡ seal_count n0 (h ++ e ∷ []) =
-    ap (λ (z : Now). z.seals) (sym one) ∙ seals_counted n0 (h ++ e ∷ []) ∙ ap (λ (z : ℕ). z + seal_count n0 (h ++ e ∷ [])) fresh ∙ omega arith in
-    ap (tree_at n0 (h ++ e ∷ [])) counted
-    ∙ last_cut n0 (h ++ e ∷ []) start (ap (λ (z : Now). z.unsealed) one ∙ now)
+    let one : now_after sizes n0 (h ++ e ∷ []) ≡ entered_by sizes (now_after sizes n0 h) e = now_more sizes n0 h e in
+    let counted : (entered_by sizes (now_after sizes n0 h) e).seals ≡ seal_count sizes n0 (h ++ e ∷ []) =
+    ap (λ (z : Now). z.seals) (sym one) ∙ seals_counted sizes n0 (h ++ e ∷ []) ∙ ap (λ (z : ℕ). z + seal_count sizes n0 (h ++ e ∷ [])) fresh ∙ omega arith in
+    ap (tree_at sizes n0 (h ++ e ∷ [])) counted
+    ∙ last_cut sizes n0 (h ++ e ∷ []) start (ap (λ (z : Now). z.unsealed) one ∙ now)
     ∙ ap (λ (z : Now). z.tree) one
 
 -- ---- one call more
@@ -101,8 +112,8 @@ history_on n0 calls i c lt is =
     ∙ hist_more sizes n0 (asked (take i calls)) (c.actor, c.command)
 
 pub now_on : (n0 : Now) (calls : List Call) (i : ℕ) (c : Call) → i < length calls → c ≡ get_or calls i c
-    → now_at n0 calls (i + 1) ≡ entered_by (now_at n0 calls i) (entry_at (now_at n0 calls i) c)
-now_on n0 calls i c lt is = ap (now_after n0) (history_on n0 calls i c lt is) ∙ now_more n0 (history_to n0 calls i) (entry_at (now_at n0 calls i) c)
+    → now_at n0 calls (i + 1) ≡ entered_by sizes (now_at n0 calls i) (entry_at (now_at n0 calls i) c)
+now_on n0 calls i c lt is = ap (now_after sizes n0) (history_on n0 calls i c lt is) ∙ now_more sizes n0 (history_to n0 calls i) (entry_at (now_at n0 calls i) c)
 
 rest_is : (calls : List Call) (i : ℕ) (c : Call) → i < length calls → c ≡ get_or calls i c → drop i calls ≡ c ∷ drop (i + 1) calls
 rest_is calls i c lt is = drop_more calls i c lt ∙ ap (λ (z : Call). z ∷ drop (i + 1) calls) (sym is)
@@ -119,20 +130,20 @@ pub reached_on : (size : ℕ) (n0 : Now) (calls : List Call) (i : ℕ) (c : Call
 reached_on size n0 calls i c tree tree' seals unsealed seals' unsealed' lt is r p rises =
     let n = now_at n0 calls i in
     let e = entry_at n c in
-    let one : now_at n0 calls (i + 1) ≡ entered_by n e = now_on n0 calls i c lt is in
-    let go : made size n (drop i calls) ≡ c ∷ made size (entered_by n e) (drop (i + 1) calls) =
-    ap (made size n) (rest_is calls i c lt is) ∙ ap (λ (b : Bool). cond b [] (c ∷ made size (entered_by n e) (drop (i + 1) calls))) p.unblocked in
-    let halt : stopped size n (drop i calls) ≡ stopped size (entered_by n e) (drop (i + 1) calls) =
-    ap (stopped size n) (rest_is calls i c lt is) ∙ ap (λ (b : Bool). cond b (Some c.line) (stopped size (entered_by n e) (drop (i + 1) calls))) p.unblocked in
+    let one : now_at n0 calls (i + 1) ≡ entered_by sizes n e = now_on n0 calls i c lt is in
+    let go : made size n (drop i calls) ≡ c ∷ made size (entered_by sizes n e) (drop (i + 1) calls) =
+    ap (made size n) (rest_is calls i c lt is) ∙ ap (λ (b : Bool). cond b [] (c ∷ made size (entered_by sizes n e) (drop (i + 1) calls))) p.unblocked in
+    let halt : stopped size n (drop i calls) ≡ stopped size (entered_by sizes n e) (drop (i + 1) calls) =
+    ap (stopped size n) (rest_is calls i c lt is) ∙ ap (λ (b : Bool). cond b (Some c.line) (stopped size (entered_by sizes n e) (drop (i + 1) calls))) p.unblocked in
     record {
       stands = subst (λ (z : Now). Stands z tree' seals' unsealed') (sym one) p.stands;
       made = r.made ∙ ap (λ (z : List Call). take i calls ++ z) go
-          ∙ sym (append_assoc (take i calls) (c ∷ []) (made size (entered_by n e) (drop (i + 1) calls)))
-          ∙ ap (λ (z : List Call). z ++ made size (entered_by n e) (drop (i + 1) calls)) (sym (front_is calls i c lt is))
+          ∙ sym (append_assoc (take i calls) (c ∷ []) (made size (entered_by sizes n e) (drop (i + 1) calls)))
+          ∙ ap (λ (z : List Call). z ++ made size (entered_by sizes n e) (drop (i + 1) calls)) (sym (front_is calls i c lt is))
           ∙ ap (λ (z : Now). take (i + 1) calls ++ made size z (drop (i + 1) calls)) (sym one);
       stop = r.stop ∙ halt ∙ ap (λ (z : Now). stopped size z (drop (i + 1) calls)) (sym one);
       acknowledged = ap durable (history_on n0 calls i c lt is) ∙ durable_more (history_to n0 calls i) e
-          ∙ durable_on size n c.actor c.command (durable (history_to n0 calls i)) p.unblocked (r.acknowledged ∙ r.stands.seals)
+          ∙ durable_on size n tree seals unsealed c.actor c.command (durable (history_to n0 calls i)) r.stands p.unblocked (r.acknowledged ∙ r.stands.seals)
           ∙ sym p.stands.seals;
       few = omega (arith, r.few, rises);
     }
@@ -145,14 +156,14 @@ pub blocked_made : (size : ℕ) (n0 : Now) (calls : List Call) (i : ℕ) (c : Ca
 blocked_made size n0 calls i c tree seals unsealed lt is r blocked =
     let n = now_at n0 calls i in
     r.made ∙ ap (λ (z : List Call). take i calls ++ z) (ap (made size n) (rest_is calls i c lt is)
-    ∙ ap (λ (b : Bool). cond b [] (c ∷ made size (entered_by n (entry_at n c)) (drop (i + 1) calls))) blocked) ∙ append-nil (take i calls)
+    ∙ ap (λ (b : Bool). cond b [] (c ∷ made size (entered_by sizes n (entry_at n c)) (drop (i + 1) calls))) blocked) ∙ append-nil (take i calls)
 
 pub blocked_stop : (size : ℕ) (n0 : Now) (calls : List Call) (i : ℕ) (c : Call) (tree : Rows) (seals unsealed : ℕ) → i < length calls → c ≡ get_or calls i c
     → Reached size n0 calls i tree seals unsealed → is_blocked size (now_at n0 calls i) c.actor c.command ≡ true → stopped size n0 calls ≡ Some c.line
 blocked_stop size n0 calls i c tree seals unsealed lt is r blocked =
     let n = now_at n0 calls i in
     r.stop ∙ ap (stopped size n) (rest_is calls i c lt is)
-    ∙ ap (λ (b : Bool). cond b (Some c.line) (stopped size (entered_by n (entry_at n c)) (drop (i + 1) calls))) blocked
+    ∙ ap (λ (b : Bool). cond b (Some c.line) (stopped size (entered_by sizes n (entry_at n c)) (drop (i + 1) calls))) blocked
 
 -- at the end of the calls
 pub all_made : (size : ℕ) (n0 : Now) (calls : List Call) (i : ℕ) (tree : Rows) (seals unsealed : ℕ) → length calls ≤ i → Reached size n0 calls i tree seals unsealed

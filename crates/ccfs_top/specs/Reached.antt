@@ -2,18 +2,19 @@
 use Rattle.std.specs.Prelude.{◌≡◌, ℕ, ◌≤◌, List, ◌++◌, take, drop}
 use Rattle.tree_model.specs.declared.rows.Entry.{Entry}
 use Rattle.tree_model.specs.Rows.{Rows}
-use Rattle.history_model.specs.Answers.{Now}
+use Rattle.history_model.specs.State.{Now}
 use Rattle.history_model.specs.Histories.{now_after, durable}
 use Rattle.script_text.specs.declared.scripts.Call.{Call}
 use Rattle.ccfs_top.specs.Runs.{history, made, stopped}
 use Rattle.ccfs_top.specs.Sessions.{Stands}
+use Rattle.ccfs_top.specs.Stages.{sizes}
 
 -- the history of the first i calls, and what it leaves
 abbrev pub history_to : Now → List Call → ℕ → List Entry
 history_to n0 calls i = history n0 (take i calls)
 
 abbrev pub now_at : Now → List Call → ℕ → Now
-now_at n0 calls i = now_after n0 (history_to n0 calls i)
+now_at n0 calls i = now_after sizes n0 (history_to n0 calls i)
 
 -- the first i calls were performed, none was blocked, and a session with these numbers stands as their history leaves it
 pub record Reached (size : ℕ) (n0 : Now) (calls : List Call) (i : ℕ) (tree : Rows) (seals unsealed : ℕ) : Type 0 where

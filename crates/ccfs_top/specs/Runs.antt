@@ -10,7 +10,7 @@ use Rattle.std.specs.Str.{bytes_eq}
 use Rattle.tree_model.specs.declared.rows.Entry.{Entry}
 use Rattle.tree_model.specs.Rows.{Rows}
 use Rattle.tree_model.specs.Picture.{picture}
-use Rattle.history_model.specs.Answers.{Now}
+use Rattle.history_model.specs.State.{Now}
 use Rattle.history_model.specs.Histories.{start, entered_by, entry_of, hist, durable, tree_at}
 use Rattle.script_text.specs.declared.scripts.Call.{Call}
 use Rattle.script_text.specs.Scripts.{calls_of, is_long}
@@ -34,12 +34,12 @@ further k n = (k + n) % 2 ^ 64
 -- the calls before the first that isn't built
 abbrev pub made : ℕ → Now → List Call → List Call
 made size n [] = []
-made size n (c ∷ cs) = cond (is_blocked size n c.actor c.command) [] (c ∷ made size (entered_by n (entry_of sizes n c.actor c.command)) cs)
+made size n (c ∷ cs) = cond (is_blocked size n c.actor c.command) [] (c ∷ made size (entered_by sizes n (entry_of sizes n c.actor c.command)) cs)
 
 -- the line of the first that isn't built
 abbrev pub stopped : ℕ → Now → List Call → Option ℕ
 stopped size n [] = None
-stopped size n (c ∷ cs) = cond (is_blocked size n c.actor c.command) (Some c.line) (stopped size (entered_by n (entry_of sizes n c.actor c.command)) cs)
+stopped size n (c ∷ cs) = cond (is_blocked size n c.actor c.command) (Some c.line) (stopped size (entered_by sizes n (entry_of sizes n c.actor c.command)) cs)
 
 -- the history of these calls
 abbrev pub asked : List Call → List (ℕ × Command)
@@ -78,7 +78,7 @@ abbrev pub finished : ℕ → Now → List Entry → Expected
 finished k n h = record {
   status = 0;
   replies = reply_lines h;
-  last = tree_lines (further k (durable h)) (picture (tree_at n h (durable h)));
+  last = tree_lines (further k (durable h)) (picture (tree_at sizes n h (durable h)));
   batches = further k (durable h);
 }
 

@@ -10,20 +10,30 @@ use Rattle.tree_model.specs.declared.rows.Update.{Update}
 use Rattle.tree_model.specs.declared.rows.Update.TheVariants.{Make, Write, Resize, Remove, Move, Release}
 use Rattle.tree_model.specs.declared.picturing.Item.{Item}
 use Rattle.tree_model.specs.Rows.{Rows}
-use Rattle.history_model.specs.Answers.{Now}
+use Rattle.tree_cuts.specs.Calls.{Charged}
+use Rattle.history_model.specs.State.{Now}
 use Rattle.history_model.specs.Histories.{entered_by, entry_of}
 use Rattle.plain_image.specs.Plain.{plain_of}
 use Rattle.ccfs_top.specs.Made.{IsMade}
 use Rattle.ccfs_top.specs.Runs.{further}
 use Rattle.ccfs_top.specs.Stages.{sizes, is_blocked}
 
--- a session with this tree, this many seals and this many unsealed updates, where the history left n
+-- an unsealed update of stream 0 that made a row: it weighs 512, and gives up nothing
+pub record IsOfMake (e : ℕ × Charged) : Type 0 where
+  pub stream : e.0 ≡ 0
+  pub weight : e.1.1.weight ≡ 512
+  pub no_blocks : e.1.1.gave_blocks ≡ 0
+  pub no_rows : e.1.1.gave_rows ≡ 0
+
+-- a session with this tree, this many seals and this many unsealed updates, where the history left n: no actor has left
+-- stream 0, and each unsealed update made a row there
 pub record Stands (n : Now) (t : Rows) (sealed waiting : ℕ) : Type 0 where
   pub tree : t ≡ n.tree
   pub seals : sealed ≡ n.seals
+  pub choices : n.choices ≡ []
   pub unsealed : waiting ≡ length n.unsealed
   pub few : waiting ≤ 512
-  pub one_stream : AllByRecursion (λ (e : ℕ × Update). e.0 ≡ 0) n.unsealed
+  pub of_makes : AllByRecursion IsOfMake n.unsealed
   pub next : n.next ≡ len n.tree
   pub made : IsMade n.tree
 
@@ -55,12 +65,12 @@ make_command false path = Create path
 pub record Answered (size : ℕ) (n : Now) (actor : ℕ) (command : Command) (answered : Reply) (t : Rows) (sealed waiting : ℕ) : Type 0 where
   pub unblocked : is_blocked size n actor command ≡ false
   pub reply : answered ≡ (entry_of sizes n actor command).reply
-  pub stands : Stands (entered_by n (entry_of sizes n actor command)) t sealed waiting
+  pub stands : Stands (entered_by sizes n (entry_of sizes n actor command)) t sealed waiting
 
 -- the same, whatever was answered
 pub record Performed (size : ℕ) (n : Now) (actor : ℕ) (command : Command) (t : Rows) (sealed waiting : ℕ) : Type 0 where
   pub unblocked : is_blocked size n actor command ≡ false
-  pub stands : Stands (entered_by n (entry_of sizes n actor command)) t sealed waiting
+  pub stands : Stands (entered_by sizes n (entry_of sizes n actor command)) t sealed waiting
 
 -- the contents spell this number and this picture, and no write that failed may still change them
 pub record Shows (in_doubt : Bool) (seen : List ℕ) (number : ℕ) (picture : List Item) : Type 0 where

@@ -7,22 +7,25 @@ use Rattle.ccfs_base.specs.declared.commands.Command.{Command}
 use Rattle.ccfs_base.specs.declared.commands.Command.TheVariants.{Mkdir, Create, StreamSync}
 use Rattle.tree_model.specs.declared.rows.Update.{Update}
 use Rattle.tree_model.specs.Picture.{picture}
-use Rattle.history_model.specs.Answers.{Sizes, Now, answer, stream_of, seals_own}
+use Rattle.tree_cuts.specs.Calls.{Sizes, seals_own}
+use Rattle.history_model.specs.State.{Now, stream_in}
+use Rattle.history_model.specs.Answers.{answer}
 use Rattle.plain_image.specs.Plain.{plain_bytes}
 
--- the inodes that answers count with until images have inodes of their own
+-- The numbers that answers count with until images have inodes and data blocks of their own. A plain image has no data
+-- blocks to run out of, since its files are empty: so this number of them seals and refuses nothing.
 abbrev pub sizes : Sizes
-sizes = record { inodes = 8192 }
+sizes = record { data_blocks = 4294967295; inodes = 8192 }
 
 -- whether an accepted update would seal its own stream first: the 513th row that is made since the last sync
 abbrev pub forces_a_seal : Now → ℕ → Option Update → Bool
 forces_a_seal n s None = false
-forces_a_seal n s (Some u) = seals_own n s u
+forces_a_seal n s (Some u) = seals_own sizes n.tree n.unsealed s u && is_open n.unsealed s
 
 -- whether a call on a disk of that many bytes isn't built: an update that would seal first, a sync of something unsealed
 -- whose picture doesn't fit the disk, and every other command
 abbrev pub is_blocked : ℕ → Now → ℕ → Command → Bool
-is_blocked size n actor (Mkdir path) = forces_a_seal n (stream_of n actor) (answer sizes n actor (Mkdir path)).1
-is_blocked size n actor (Create path) = forces_a_seal n (stream_of n actor) (answer sizes n actor (Create path)).1
-is_blocked size n actor StreamSync = is_open n.unsealed (stream_of n actor) && ltb size (length (plain_bytes 0 (picture n.tree)))
+is_blocked size n actor (Mkdir path) = forces_a_seal n (stream_in n.choices actor) (answer sizes n actor (Mkdir path)).1
+is_blocked size n actor (Create path) = forces_a_seal n (stream_in n.choices actor) (answer sizes n actor (Create path)).1
+is_blocked size n actor StreamSync = is_open n.unsealed (stream_in n.choices actor) && ltb size (length (plain_bytes 0 (picture n.tree)))
 is_blocked size n actor c = true

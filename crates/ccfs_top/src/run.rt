@@ -2,7 +2,7 @@
 ghost use Rattle.std.specs.Prelude.{◌≡◌, ◌≢◌, ◌≤◌, ◌<◌, ◌+◌, ◌-◌, ◌^◌, ◌++◌, ℕ, List, [], true, false, length, take, OnOk, OnErr, IsErr, IsErrOf, None, Some};
 ghost use Rattle.fault_counts.specs.Counts.{Rose};
 ghost use Rattle.tree_model.specs.Picture.{picture};
-ghost use Rattle.history_model.specs.Answers.{Now};
+ghost use Rattle.history_model.specs.State.{Now};
 ghost use Rattle.history_model.specs.Histories.{start, entry_of, durable, tree_at};
 ghost use Rattle.ccfs_top.specs.Ends.{IsFront, joined};
 ghost use Rattle.ccfs_top.specs.Made.{IsMade};
@@ -84,7 +84,7 @@ pub fn perform_all<D: Disk, K: Sink>(
     ensures text { K.tells → OnOk result (K.held out.new ≡ K.held out.old ++ joined (replies (D.known session.old.disk) (start session.old.tree) calls.now)) }
     ensures shows { D.tells → OnOk result (Shows (D.in_doubt session.new.disk) (D.seen session.new.disk)
         (further session.old.number (durable (final_history (D.known session.old.disk) (start session.old.tree) calls.now)))
-        (picture (tree_at (start session.old.tree) (final_history (D.known session.old.disk) (start session.old.tree) calls.now) (durable (final_history (D.known session.old.disk) (start session.old.tree) calls.now))))) }
+        (picture (tree_at sizes (start session.old.tree) (final_history (D.known session.old.disk) (start session.old.tree) calls.now) (durable (final_history (D.known session.old.disk) (start session.old.tree) calls.now))))) }
     ensures blocked { (line : ℕ) → IsErrOf result (RunFault.NotBuilt line) → (stopped (D.known session.old.disk) (start session.old.tree) calls.now ≡ Some line)
         × (K.tells → K.held out.new ≡ K.held out.old ++ joined (replies (D.known session.old.disk) (start session.old.tree) calls.now)) }
     ensures sink { IsErrOf result RunFault.Sink → Rose (K.faults out.old) (K.faults out.new)

@@ -5,7 +5,8 @@ ghost use Rattle.fault_counts.specs.Counts.{Rose};
 ghost use Rattle.tree_model.specs.Updates.{apply};
 ghost use Rattle.tree_model.specs.Tests.{applies};
 ghost use Rattle.tree_model.specs.Picture.{picture};
-ghost use Rattle.history_model.specs.Answers.{Now, make};
+ghost use Rattle.history_model.specs.Answers.{make};
+ghost use Rattle.history_model.specs.State.{Now};
 ghost use Rattle.plain_image.specs.Plain.{plain_bytes, plain_of};
 ghost use Rattle.script_text.specs.Texts.{is_printed};
 ghost use Rattle.ccfs_top.specs.Made.{IsMade};
@@ -54,11 +55,12 @@ pub struct Session<D: Disk> {
 /// What mkdir or create asks for: the update, or why it is refused.
 fn make_update(tree: &Tree, path: &Path, is_dir: bool) -> Result<Update, Refusal>
     requires { IsMade tree.now }
-    ensures update { (n : Now) (seals unsealed : ℕ) → Stands n tree.now seals unsealed → IfOk result (λ u. make sizes n is_dir path.now ≡ (reply.Done, Some u)) }
+    ensures update { (n : Now) (seals unsealed : ℕ) → Stands n tree.now seals unsealed → IfOk result (λ u. make sizes n 0 is_dir path.now ≡ (reply.Done, Some u)) }
     ensures applies { IfOk result (λ u. IsTrue (applies tree.now u)) }
     ensures serial { IfOk result (λ u. serial_of u ≡ len tree.now) }
+    ensures room { IfOk result (λ u. len tree.now < 8191) }
     ensures named { IfOk result (λ u. is_name (name_of u) ≡ true) }
-    ensures refused { (n : Now) (seals unsealed : ℕ) → Stands n tree.now seals unsealed → IfErr result (λ cause. make sizes n is_dir path.now ≡ (reply.Refused cause, None)) }
+    ensures refused { (n : Now) (seals unsealed : ℕ) → Stands n tree.now seals unsealed → IfErr result (λ cause. make sizes n 0 is_dir path.now ≡ (reply.Refused cause, None)) }
 {
     if path.is_root() {
         return Err(Refusal::Exists);

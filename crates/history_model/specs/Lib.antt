@@ -1,3 +1,4 @@
+pub mod State
 pub mod Answers
 pub mod Histories
 pub mod Laws

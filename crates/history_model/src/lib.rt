@@ -1,9 +1,9 @@
-//! Histories of calls on a file tree: what each command answers, which seals it makes, and the tree of each cut. The crate
-//! stands on the tree and on the theory of streams and cuts; it has definitions, and their laws as clauses of functions
-//! that do nothing.
+//! Histories of calls on a file tree: what each command answers, what a history leaves, which seals it makes, and the tree
+//! of each cut. The crate stands on the tree and on the laws of cuts of trees; it has definitions, and their laws as
+//! clauses of functions that do nothing.
 #![tactic(auto)]
 
-ghost use Rattle.history_model.specs.Laws.{HistIsLegal, LastCutIsWhole, LegalIsUnique, LongerKeepsTrees, SealsAreCounted};
+ghost use Rattle.history_model.specs.Laws.{HistIsLegal, LastCutIsWhole, LegalIsUnique, LongerKeepsTrees, SealsAreCounted, StepsAreOfCalls};
 
 /// The tree of a cut stays as it is when more happens.
 #[tactic(auto, using(crate::proofs::Longer::longer_trees))]
@@ -23,7 +23,13 @@ pub fn seal_count_law()
     ensures { SealsAreCounted }
 {}
 
-/// Each list of built calls has one legal history: the history of the list is legal, and a legal one is that of its calls.
+/// What a history does to the streams is what `tree_cuts` says of its calls.
+#[tactic(auto, using(crate::proofs::Longer::steps_of_calls))]
+pub fn steps_of_calls_law()
+    ensures { StepsAreOfCalls }
+{}
+
+/// Each list of calls has one legal history: the history of the list is legal, and a legal one is that of its calls.
 #[tactic(auto, using(crate::proofs::Legal::legal_is_hist, crate::proofs::Legal::hist_is_legal, crate::proofs::Legal::hist_of_calls))]
 pub fn one_legal_history_law()
     ensures one { LegalIsUnique }

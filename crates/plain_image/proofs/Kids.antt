@@ -79,7 +79,7 @@ is_true : (b : Bool) → T b → b ≡ true
 is_true true t = refl
 is_true false t = absurd t
 
-rows_found : (t : Rows) → EachEntry (λ f. get t f.0 ≡ Some f.1) (entries t)
+pub rows_found : (t : Rows) → EachEntry (λ f. get t f.0 ≡ Some f.1) (entries t)
 rows_found t = entry_weaker (λ f. find nat_cmp f.0 (entries t) ≡ Some f.1) (λ f. get t f.0 ≡ Some f.1) (λ f p. get-entries t f.0 ∙ p) (entries t) (each_found (entries t) (is_true _ (entries_sorted t)))
 
 -- ---- children

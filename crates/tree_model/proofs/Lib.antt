@@ -21,3 +21,6 @@ pub mod Swapping
 pub mod Mutual
 pub mod Untouched
 pub mod Slots
+pub mod Live
+pub mod Steady
+pub mod LiveKept

@@ -3,6 +3,7 @@ ghost use Rattle.std.specs.Prelude.{◌≡◌, true, false, IfOk};
 ghost use Rattle.std.specs.List.{filter_map, list_any};
 ghost use Rattle.std.specs.Option.{option_to_list};
 ghost use Rattle.tree_model.specs.Keys.{clash, keys_of, meets, replaced_key, shape_key};
+ghost use Rattle.tree_model.specs.Laws.{is_changed_node, changes_node};
 
 use super::rows::Update;
 use ccfs_base::{Name, NoMemory};
@@ -158,6 +159,37 @@ fn any_clashes(slots: &[Option<Key>], key: &Key) -> bool
         }
     }
     false
+}
+
+/// Whether it is the key of that row, and is changed.
+fn is_changed_node(key: &Key, row: u32) -> bool
+    ensures { result ≡ is_changed_node row key.now }
+{
+    match key {
+        Key::Node { id, changed } => *id == row && *changed,
+        _ => false,
+    }
+}
+
+/// Whether one of the keys in the slots is that of the row, and is changed.
+fn any_changes_node(slots: &[Option<Key>], row: u32) -> bool
+    ensures { result ≡ list_any (is_changed_node row) (filter_map (λ slot. slot) slots.now) }
+{
+    for slot in slots {
+        if let Some(key) = slot {
+            if is_changed_node(key, row) {
+                return true;
+            }
+        }
+    }
+    false
+}
+
+/// Whether an update changes a row as such, and not only an entry that names it. It takes no memory.
+pub fn changes_node(update: &Update, row: u32) -> bool
+    ensures { result ≡ changes_node row update.now }
+{
+    any_changes_node(&slots(update), row)
 }
 
 /// Whether two updates meet: they share a key that at least one of them changes. It takes no memory.

@@ -5,6 +5,7 @@
 //! answers, and each change makes, what the definitions of `specs/` say of the rows alone.
 #![tactic(auto)]
 
+mod asking;
 mod keeping;
 mod keys;
 pub mod laws;
@@ -21,7 +22,8 @@ mod updating;
 mod updating_tests;
 mod walking;
 
+pub use asking::blocks_of;
 pub use keeping::{ROOT, Tree};
-pub use keys::{Key, keys_of, meets};
+pub use keys::{Key, changes_node, keys_of, meets};
 pub use picturing::{Item, ItemKind, Picture};
 pub use rows::{Body, Entry, Row, Update};

@@ -1,10 +1,13 @@
 //! A row with its entries.
-ghost use Rattle.std.specs.Prelude.{◌≡◌, ◌+◌, ◌<◌, ◌^◌, ◌++◌, length, IfOk, OnOk, OnErr, reverse, map as map_list};
+ghost use Rattle.std.specs.Prelude.{◌≡◌, ◌+◌, ◌<◌, ◌≤◌, ◌^◌, ◌++◌, length, IfOk, OnOk, OnErr, reverse, map as map_list};
 ghost use Rattle.std.specs.FinMap as map;
 ghost use Rattle.ccfs_base.specs.Contents.{resized, written};
+ghost use Rattle.ccfs_base.specs.Limits.{blocks};
+ghost use Rattle.tree_model.specs.Weights.{body_bytes};
 ghost use Rattle.tree_model.specs.Nodes.{entered, told, counted_node, placed_node, unplaced_node, refilled_node, with_entry, without_entry, index_of};
 ghost use Rattle.tree_model.specs.Picture.{item_kind};
 
+use super::asking::blocks_of;
 use super::picturing::{Item, ItemKind};
 use super::rows::{Body, Row};
 use ccfs_base::{Name, NoMemory};
@@ -96,6 +99,25 @@ impl Node {
             ahead.push((depth, *id))?;
         }
         Ok(())
+    }
+
+    /// How many blocks a file takes; a directory takes none.
+    pub fn blocks(&self) -> u64
+        ensures blocks { result ≡ blocks (length (body_bytes self.now.0.body)) }
+        ensures few { result ≤ 2 ^ 53 }
+    {
+        blocks_of(self.row.body.bytes().len() as u64)
+    }
+
+    /// Its entries in byte order of their names.
+    pub fn list(&self, alloc: Global) -> Result<Vec<(Name, u32)>, NoMemory>
+        ensures { IfOk result (λ all. all.items ≡ map.entries self.now.1) }
+    {
+        let mut all = Vec::new(alloc);
+        for (name, id) in self.entries.iter() {
+            all.push((*name, *id))?;
+        }
+        Ok(all)
     }
 
     /// Sets a directory's count of changes. A file stays as it is.

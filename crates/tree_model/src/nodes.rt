@@ -1,9 +1,12 @@
 //! Rows with their entries, by serial.
-ghost use Rattle.std.specs.Prelude.{◌≡◌, ◌+◌, ◌<◌, ◌^◌, length, IfOk, OnOk, OnErr};
+ghost use Rattle.std.specs.Prelude.{◌≡◌, ◌+◌, ◌<◌, ◌≤◌, ◌^◌, length, IfOk, OnOk, OnErr};
 ghost use Rattle.std.specs.declared.option.Option.TheVariants.{None};
 ghost use Rattle.std.specs.FinMap as map;
 ghost use Rattle.std.specs.Option.{option_copied};
+ghost use Rattle.std.specs.List.{sum_by};
 ghost use Rattle.ccfs_base.specs.Contents.{resized, written};
+ghost use Rattle.ccfs_base.specs.Limits.{blocks};
+ghost use Rattle.tree_model.specs.Weights.{body_bytes};
 ghost use Rattle.tree_model.specs.Nodes.{entered, told, counted_node, placed_node, unplaced_node, refilled_node, with_entry, without_entry, left_in, left_over, on_node};
 
 use super::node::Node;
@@ -200,6 +203,19 @@ impl Nodes {
         if let Some(node) = self.nodes.get_mut(&id) {
             node.recount(count);
         }
+    }
+
+    /// How many blocks all files take.
+    pub fn live(&self) -> u128
+        requires { map.len self.now < 2 ^ 32 }
+        ensures sum { result ≡ sum_by (λ e. blocks (length (body_bytes e.1.0.body))) (map.entries self.now) }
+        ensures few { result ≤ 2 ^ 85 }
+    {
+        let mut all: u128 = 0;
+        for (_, node) in self.nodes.iter() {
+            all += u128::from(node.blocks());
+        }
+        all
     }
 
     /// The same nodes once more.

@@ -181,6 +181,64 @@ pub enum Update {
     },
 }
 
+impl Update {
+    /// The same update once more.
+    pub fn copy(&self) -> Result<Update, NoMemory>
+        ensures { IfOk result (λ update. update ≡ self.now) }
+    {
+        Ok(match self {
+            Update::Make {
+                dir,
+                name,
+                id,
+                is_dir,
+            } => Update::Make {
+                dir: *dir,
+                name: *name,
+                id: *id,
+                is_dir: *is_dir,
+            },
+            Update::Write { id, off, bytes } => Update::Write {
+                id: *id,
+                off: *off,
+                bytes: bytes.copy()?,
+            },
+            Update::Resize { id, len } => Update::Resize { id: *id, len: *len },
+            Update::Remove {
+                dir,
+                name,
+                id,
+                stays,
+            } => Update::Remove {
+                dir: *dir,
+                name: *name,
+                id: *id,
+                stays: *stays,
+            },
+            Update::Move {
+                dir,
+                name,
+                to_dir,
+                to_name,
+                id,
+                is_dir,
+                replaced,
+                stays,
+            } => Update::Move {
+                dir: *dir,
+                name: *name,
+                to_dir: *to_dir,
+                to_name: *to_name,
+                id: *id,
+                is_dir: *is_dir,
+                replaced: *replaced,
+                stays: *stays,
+            },
+            Update::Release { id } => Update::Release { id: *id },
+        })
+    }
+}
+
 /// What a session says of one command: who gave it, in which stream, what it was answered and what it changed.
 #[derive(Debug, Drop)]
 pub struct Entry {

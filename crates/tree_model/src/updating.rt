@@ -24,7 +24,7 @@ fn fits_file(off: u64, len: usize) -> bool
 
 impl Tree {
     /// Whether the row of that serial is there and is a directory (for `is_dir` true) or a file.
-    fn is_kind(&self, id: u32, is_dir: bool) -> bool
+    pub fn is_kind(&self, id: u32, is_dir: bool) -> bool
         ensures { result ≡ is_kind (kind_of self.now id) is_dir }
     {
         match self.row(id) {
@@ -44,7 +44,7 @@ impl Tree {
     }
 
     /// Whether `id` is `from` or above it, at most that many steps up.
-    fn is_above(&self, id: u32, from: u32, steps: usize) -> bool
+    pub fn is_above(&self, id: u32, from: u32, steps: usize) -> bool
         ensures { result ≡ is_above steps self.now id (Some from) }
     {
         let mut at = from;

@@ -1,12 +1,14 @@
 use Rattle.std.proofs.Common.{◌≡◌, ◌+◌, ◌≤◌, ℕ, true, false, inl, inr, sym, ap, ◌∙◌, refl, subst, arith}
 use Rattle.std.specs.declared.option.Option.TheVariants.{Some}
 use Rattle.std.proofs.lemmas.Bool.{cases_eq}
+use Rattle.std.proofs.lemmas.List.{append-nil}
 use Rattle.history_model.specs.Histories.{start}
+use Rattle.ccfs_top.specs.Runs.{further}
 use Rattle.ccfs_top.specs.Stages.{is_blocked}
 use Rattle.ccfs_top.specs.Sessions.{Performed}
 use Rattle.ccfs_top.specs.Reached.{now_at}
 use Rattle.ccfs_top.proofs.Steps.{blocked_made, blocked_stop, reached_on}
-use Rattle.ccfs_top.proofs.Ending.{cut_at_lines, whole_text, sink_front, text_on, number_on, shows_on}
+use Rattle.ccfs_top.proofs.Ending.{cut_at_lines, whole_text, sink_front, text_on, number_on, shows_on, further_none, reached_first}
 use Rattle.ccfs_top.proofs.run.perform_all.Goals as goal
 
 pub returns-in-Err-clause-blocked : goal.returns-in-Err-clause-blocked
@@ -85,4 +87,18 @@ loop-call-preserved g c =
       known = c.in-Ok.ensures.known ∙ v.known;
       later = omega (arith, v.later, later);
       sink_later = omega (arith, v.sink_later, sink_later);
+    }
+
+pub loop-call-init : goal.loop-call-init
+loop-call-init g c =
+    let number = c.args.session.now.number in
+    record {
+      reached = reached_first (g.D.Disk.known c.args.session.now.disk) c.args.session.now.tree c.args.calls.now c.args.session.now.seals c.args.session.now.unsealed
+          c.requires.no_seals c.requires.none_unsealed c.requires.made;
+      text = λ told. sym (append-nil (g.K.Sink.held c.args.out.now));
+      number = further_none number (omega arith) ∙ ap (further number) (sym c.requires.no_seals);
+      shows = c.requires.shown;
+      known = refl;
+      later = omega arith;
+      sink_later = omega arith;
     }

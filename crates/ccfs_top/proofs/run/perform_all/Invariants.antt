@@ -5,6 +5,7 @@ use Rattle.ccfs_top.specs.Ends.{joined}
 use Rattle.ccfs_top.specs.Runs.{reply_lines, further}
 use Rattle.ccfs_top.specs.Reached.{Reached, history_to}
 use Rattle.ccfs_top.specs.Sessions.{Shows}
+use Rattle.ccfs_top.specs.Stages.{sizes}
 use Rattle.ccfs_top.proofs.run.perform_all.Given as goal
 
 -- so many calls were performed and their reply lines written, and the disk shows the tree that is durable
@@ -14,7 +15,7 @@ invariant-loop-call g l = record {
   text : g.K.Sink.tells → g.K.Sink.held l.out ≡ g.K.Sink.held l.initial.out ++ joined (reply_lines (history_to (start l.initial.session.tree) l.calls l.call-index));
   number : l.session.number ≡ further l.initial.session.number l.session.seals;
   shows : g.D.Disk.tells → Shows (g.D.Disk.in_doubt l.session.disk) (g.D.Disk.seen l.session.disk) l.session.number
-      (picture (tree_at (start l.initial.session.tree) (history_to (start l.initial.session.tree) l.calls l.call-index) l.session.seals));
+      (picture (tree_at sizes (start l.initial.session.tree) (history_to (start l.initial.session.tree) l.calls l.call-index) l.session.seals));
   known : g.D.Disk.known l.session.disk ≡ g.D.Disk.known l.initial.session.disk;
   later : g.D.Disk.faults l.initial.session.disk ≤ g.D.Disk.faults l.session.disk;
   sink_later : g.K.Sink.faults l.initial.out ≤ g.K.Sink.faults l.out;

@@ -13,4 +13,4 @@ returns-then-self-ge-MAX_UNSEALED-clause-blocked g c = λ n size actor stands is
 pub returns-in-Ok-apply-clause-ok : goal.returns-in-Ok-apply-clause-ok
 returns-in-Ok-apply-clause-ok g c = λ n size actor stands.
     performed_made n c.args.self.now.tree c.apply.new.self size c.args.self.now.seals c.args.self.now.unsealed actor c.args.is_dir c.args.path.now c.in-Ok.update
-    (c.in-Ok.ensures.update n _ _ stands) stands (omega arith) c.in-Ok.ensures.serial c.in-Ok.ensures.named c.in-Ok.ensures.applies c.in-Ok-apply.ensures.ok
+    (c.in-Ok.ensures.update n _ _ stands) stands (omega arith) c.in-Ok.ensures.room c.in-Ok.ensures.serial c.in-Ok.ensures.named c.in-Ok.ensures.applies c.in-Ok-apply.ensures.ok

@@ -1,0 +1,11 @@
+pub mod Good
+pub mod Sound
+pub mod Told
+pub mod Turns
+pub mod Kept
+pub mod Runs
+pub mod Sized
+pub mod Light
+pub mod Room
+pub mod Balance
+pub mod Space

@@ -1,0 +1,10 @@
+use Rattle.std.proofs.Common.{◌≡◌, Ok, ap, ◌∙◌}
+use Rattle.std.proofs.lemmas.Result.{IfOk-weaker}
+use Rattle.tree_model.specs.Walk.{walk}
+use Rattle.history_model.specs.Answers.{from_row, listing}
+use Rattle.plain_model.proofs.keeping.State.list_path.Goals as goal
+
+pub returns-in-Ok : goal.returns-in-Ok
+returns-in-Ok c =
+    let there : Ok c.in-Ok.id ≡ walk c.args.self.now.tree c.args.path.now 0 = c.in-Ok.ensures ∙ ap (λ n. walk n.tree c.args.path.now 0) c.self.view_is in
+    IfOk-weaker c.listing.result _ _ (λ a e sizes. e sizes ∙ ap (λ r. from_row r (listing sizes c.args.self.now c.args.skip)) there) c.listing.ensures

@@ -1,0 +1,11 @@
+use Rattle.std.proofs.Common.{◌≡◌, Some, ap, ◌∙◌}
+use Rattle.std.proofs.lemmas.Result.{IfOk-weaker}
+use Rattle.history_model.specs.State.{file_in}
+use Rattle.history_model.specs.Answers.{at_handle, read}
+use Rattle.plain_model.proofs.keeping.State.read_handle.Goals as goal
+
+pub returns-in-Some : goal.returns-in-Some
+returns-in-Some c =
+    let there : Some c.in-Some.id ≡ file_in c.args.self.now.handles c.args.actor c.args.handle
+    = c.in-Some.ensures ∙ ap (λ l. file_in l c.args.actor c.args.handle) (c.deref.ensures.value ∙ ap (λ n. n.handles) c.self.view_is) in
+    IfOk-weaker c.read.result _ _ (λ a e sizes. e sizes ∙ ap (λ o. at_handle o (read sizes c.args.self.now c.args.off c.args.size)) there) c.read.ensures
