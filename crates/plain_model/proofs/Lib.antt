@@ -1,2 +1,6 @@
 pub mod Moves
+pub mod OneStep
 pub mod Ranges
+pub mod SealSteps
+pub mod Left
+pub mod Records

@@ -5,8 +5,11 @@ use Rattle.std.specs.FinMap as map
 use Rattle.tree_model.specs.Rows.{Rows}
 use Rattle.tree_model.specs.contracts.rows.Row as row
 use Rattle.tree_model.specs.contracts.rows.Update as update
-use Rattle.tree_cuts.specs.Calls.{Charge, Charged}
+use Rattle.tree_cuts.specs.Calls.{Sizes, Charge, Charged}
 use Rattle.history_model.specs.State.{Choice, Opened, Now}
+use Rattle.tree_model.specs.declared.rows.Entry.{Entry}
+use Rattle.tree_model.specs.contracts.rows.Entry as entry
+use Rattle.plain_model.specs.Recorded.{Recorded}
 
 abbrev pub choice_code : Coded Choice
 choice_code = code_by (ℕ × (ℕ × Bool)) (coded× coded_ℕ (coded× coded_ℕ coded_bool)) (λ c. (c.actor, (c.stream, c.ignore))) (λ p. record { actor = p.0; stream = p.1.0; ignore = p.1.1 }) (λ _. refl)
@@ -23,3 +26,10 @@ now_code = code_by (Rows × (List Choice × (List Opened × (List (ℕ × Charge
     (λ n. (n.tree, (n.choices, (n.handles, (n.unsealed, (n.next, n.seals))))))
     (λ p. record { tree = p.0; choices = p.1.0; handles = p.1.1.0; unsealed = p.1.1.1.0; next = p.1.1.1.1.0; seals = p.1.1.1.1.1 })
     (λ _. refl)
+
+abbrev pub sizes_code : Coded Sizes
+sizes_code = code_by (ℕ × ℕ) (coded× coded_ℕ coded_ℕ) (λ s. (s.data_blocks, s.inodes)) (λ p. record { data_blocks = p.0; inodes = p.1 }) (λ _. refl)
+
+abbrev pub recorded_code : Coded Recorded
+recorded_code = code_by (Sizes × (Rows × List Entry)) (coded× sizes_code (coded× (map.code coded_ℕ row.the_row.coded) (coded_list entry.the_row.coded)))
+    (λ r. (r.sizes, (r.opening, r.entries))) (λ p. record { sizes = p.0; opening = p.1.0; entries = p.1.1 }) (λ _. refl)

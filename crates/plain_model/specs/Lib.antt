@@ -1,2 +1,4 @@
 pub mod Bounds
 pub mod Codes
+pub mod Steps
+pub mod Recorded

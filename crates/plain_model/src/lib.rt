@@ -5,15 +5,25 @@
 #![tactic(auto)]
 
 mod answering;
+mod calling;
+mod charging;
 mod commands;
+mod cutting;
+#[cfg(test)]
+mod cutting_tests;
 mod files;
 mod finding;
 mod keeping;
 mod listing;
 mod naming;
+mod planning;
+mod recording;
+mod sealing;
 mod seals;
 mod sums;
 mod syncing;
 
 pub use answering::Answer;
+pub use cutting::{Step, seal_numbers, tree_of_cut};
 pub use keeping::{Charge, Choice, Opened, Sizes, State};
+pub use recording::History;

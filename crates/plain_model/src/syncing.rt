@@ -13,7 +13,7 @@ use super::seals::{changers, open_ones, streams_below};
 use ccfs_base::{NoMemory, Reply};
 
 /// The number of streams.
-const STREAMS: u8 = 64;
+pub(crate) const STREAMS: u8 = 64;
 
 impl State {
     /// The streams that a sync of a stream seals: that one, where it has an unsealed update.
