@@ -57,6 +57,7 @@ NoUpdateWeighsMore = (sizes : Sizes) (t : Rows) (h : List Entry) → IsTree t �
 abbrev pub last_cut : Sizes → Rows → List Entry → ℕ → ℕ
 last_cut sizes t h = cut_at (steps_in sizes (start t) h) (seal_count sizes (start t) h)
 
+-- The tree at the cut after all seals so far.
 abbrev pub last_tree : Sizes → Rows → List Entry → Rows
 last_tree sizes t h = tree_at sizes (start t) h (seal_count sizes (start t) h)
 

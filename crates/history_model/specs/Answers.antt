@@ -32,6 +32,7 @@ Answer = Reply × Option Update
 
 -- ---- words for the checks of a command
 
+-- the refusal for this cause; nothing is changed
 abbrev pub refused : Refusal → Answer
 refused cause = (reply.Refused cause, None)
 
@@ -39,6 +40,7 @@ refused cause = (reply.Refused cause, None)
 abbrev pub tells : Reply → Answer
 tells r = (r, None)
 
+-- done, with this update
 abbrev pub does : Update → Answer
 does u = (reply.Done, Some u)
 
@@ -51,6 +53,7 @@ abbrev pub from_row : Result ℕ Refusal → (ℕ → Answer) → Answer
 from_row (Ok x) f = f x
 from_row (Err cause) f = refused cause
 
+-- go on from the row at the end of a path: of `/a/f` from that file's serial
 abbrev pub at_path : Rows → List (List ℕ) → (ℕ → Answer) → Answer
 at_path t path f = from_row (walk t path 0) f
 
@@ -58,6 +61,7 @@ at_path t path f = from_row (walk t path 0) f
 abbrev pub at_parent : Rows → List (List ℕ) → (ℕ → Answer) → Answer
 at_parent t path f = from_row (parent_walk t path) f
 
+-- go on from the file of a handle, where it is open
 abbrev pub at_handle : Option ℕ → (ℕ → Answer) → Answer
 at_handle (Some x) f = f x
 at_handle None f = refused refusal.BadHandle
@@ -67,24 +71,28 @@ abbrev pub at_place : Option (ℕ × List ℕ) → (ℕ → List ℕ → Answer)
 at_place (Some p) f = f p.0 p.1
 at_place None f = refused refusal.Root
 
+-- whether a path is the root's, which has no names
 abbrev pub is_root : List (List ℕ) → Bool
 is_root [] = true
 is_root (n ∷ ns) = false
 
+-- the larger of two numbers
 abbrev pub larger : ℕ → ℕ → ℕ
 larger a b = cond (nat_le a b) b a
 
 -- ---- what a directory shows
 
+-- the count of changes of a directory; a file has 0
 abbrev pub body_changes : Body → ℕ
 body_changes (Dir changes) = changes
 body_changes (File bytes) = 0
 
+-- the same of a row, and 0 where there is none
 abbrev pub row_changes : Option Row → ℕ
 row_changes None = 0
 row_changes (Some r) = body_changes r.body
 
--- ---- how many seals there are among these steps
+-- how many seals there are among these steps: Seal 1, Enter 2 b, Seal 2 have two
 abbrev pub closes : {U : Type 0} → List (Step U) → ℕ
 closes [] = 0
 closes (Enter s u ∷ l) = closes l
@@ -165,6 +173,7 @@ module _ (sizes : Sizes) where
       refuses (is_above (len n.tree) n.tree x (Some to_dir)) refusal.Loop
       (move_to n x to_dir (last_of to) (entry n.tree to_dir (last_of to))))))
 
+  -- the handle that is free, if there is one
   abbrev pub given_handle : Option ℕ → Answer
   given_handle (Some h) = tells (reply.Handle h)
   given_handle None = refused refusal.HandlesFull
@@ -178,6 +187,7 @@ module _ (sizes : Sizes) where
   close n actor handle x =
       cond (is_file_at n.tree x && (is_none (place_of n.tree x) && not (is_open_on (closed n.handles actor handle) x))) (does (update.Release x)) (tells reply.Done)
 
+  -- stat: of a directory how many entries it has, and its changes; of a file its length and its blocks
   abbrev pub stat : Now → ℕ → Answer
   stat n x = cond (is_dir_at n.tree x)
       (tells (reply.StatDir (length (children n.tree x)) (row_changes (get n.tree x))))

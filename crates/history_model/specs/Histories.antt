@@ -62,6 +62,7 @@ abbrev pub choices_by : List Choice → ℕ → Command → List Choice
 choices_by cs actor (command.SetStream stream ignore) = record { actor = actor; stream = stream; ignore = ignore } ∷ cs
 choices_by cs actor c = cs
 
+-- a handle is put in front, where the walk led to a file: handle 0 of actor 3 on the file 7
 abbrev pub opened_at : List Opened → ℕ → ℕ → Result ℕ Refusal → List Opened
 opened_at os actor number (Ok x) = record { actor = actor; number = number; file = x } ∷ os
 opened_at os actor number (Err cause) = os
@@ -81,10 +82,12 @@ makes (Remove dir name id stays) = 0
 makes (Move dir name to_dir to_name id is_dir replaced stays) = 0
 makes (Release id) = 0
 
+-- the same of an update or none
 abbrev pub made_by : Option Update → ℕ
 made_by None = 0
 made_by (Some u) = makes u
 
+-- the tree after an update, or the same tree where there is none
 abbrev pub tree_by : Rows → Option Update → Rows
 tree_by t None = t
 tree_by t (Some u) = apply t u
@@ -94,6 +97,7 @@ abbrev pub MayCall : ℕ → Command → Type 0
 MayCall actor c = (actor < 64) × IsTrue (fits_command c)
 
 module _ (sizes : Sizes) where
+  -- what an entry's call does to the streams
   abbrev pub steps_by : Now → Entry → List (Step Charged)
   steps_by n e = call_steps sizes n.tree n.unsealed (call_by n e)
 
@@ -166,6 +170,7 @@ abbrev pub synced_number : ℕ → Reply → ℕ
 synced_number n (reply.Synced m) = m
 synced_number n r = n
 
+-- the same number, on top of one that was acknowledged before
 abbrev pub durable_from : ℕ → List Entry → ℕ
 durable_from n [] = n
 durable_from n (e ∷ h) = durable_from (synced_number n e.reply) h

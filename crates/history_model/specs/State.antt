@@ -43,6 +43,7 @@ abbrev pub ignores_in : List Choice → ℕ → Bool
 ignores_in [] actor = false
 ignores_in (c ∷ cs) actor = cond (c.actor == actor) c.ignore (ignores_in cs actor)
 
+-- whether a handle is that of this actor with this number
 abbrev pub is_handle : ℕ → ℕ → Opened → Bool
 is_handle actor number o = o.actor == actor && o.number == number
 

@@ -31,7 +31,7 @@ module _ {U : Type 0} where
   abbrev pub entering : (U → U → Bool) → ℕ → U → Bool → List (ℕ × U) → List (Step U)
   entering meets s u own unsealed = map Seal (sealed_before meets s u own unsealed) ++ Enter s u ∷ []
 
-  -- The steps as the streams rs are sealed: a stream without an unsealed update gives no seal. With (1, a) unsealed,
+  -- The steps as the streams rs are sealed: a stream that has nothing unsealed is passed over. With (1, a) unsealed,
   -- sealing 1 and 2 is Seal 1.
   abbrev pub sealing : List ℕ → List (ℕ × U) → List (Step U)
   sealing rs unsealed = map Seal (filter (is_open unsealed) rs)

@@ -36,8 +36,7 @@ LongerHistoriesKeep = (sizes : Sizes) (t : Rows) (calls more : List Call) (n : �
     × (kept_at sizes t (calls ++ more) n ≡ kept_at sizes t calls n)
     × (tree_at_cut sizes t (calls ++ more) n ≡ tree_at_cut sizes t calls n)
 
--- The tree of the next cut of a run is the tree of this one and then the updates of the next batch, each applying at its
--- place.
+-- One seal more in a run puts the updates of one batch on the tree of the cut, and each of them applies at its place.
 abbrev pub NextCutIsOneBatchOn : Type 0
 NextCutIsOneBatchOn = (sizes : Sizes) (t : Rows) (calls : List Call) (n : ℕ) → IsRun t calls
     → AllApply Applies apply (tree_at_cut sizes t calls n) (batch_after sizes t calls n)

@@ -52,7 +52,7 @@ pub fn longer_histories_keep()
     ensures { LongerHistoriesKeep }
 {}
 
-/// The tree of the next cut is the tree of this one and then the next batch's updates, each applying.
+/// One seal more puts the updates of one batch on the tree of a cut, each applying at its place.
 pub fn the_next_cut_is_one_batch_on()
     ensures { NextCutIsOneBatchOn }
 {}
