@@ -4,3 +4,5 @@ pub mod Crash
 pub mod Still
 pub mod Runs
 pub mod Places
+pub mod Pick
+pub mod Replays

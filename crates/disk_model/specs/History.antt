@@ -18,7 +18,7 @@ all_inside start (Write offset bytes ∷ past) = nat_le (offset + length bytes.i
 all_inside start (Resize size ∷ past) = all_inside start past
 all_inside start (Sync ∷ past) = all_inside start past
 
--- The images that a crash now may leave: since the last sync any bytes in the ranges that were written, and either size.
+-- The images of a crash now: since the last sync any bytes in the ranges that were written, and either size.
 -- After a write of 7 at offset 1 of 0 0 0 these are 0 x 0 for each byte x, and after a sync 0 7 0 alone.
 abbrev pub Images : List ℕ → List Operation → List ℕ → Type 0
 Images start [] c = c ≡ start

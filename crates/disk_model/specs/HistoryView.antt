@@ -8,7 +8,7 @@ use Rattle.disk_model.specs.declared.history.History.{History}
 abbrev pub past_of : History → List Operation
 past_of history = reverse history.operations.items
 
--- which images a crash now may leave
+-- the images of a crash now
 abbrev pub images_of : History → List ℕ → Type 0
 images_of history = Images history.start.items (past_of history)
 
@@ -16,7 +16,7 @@ images_of history = Images history.start.items (past_of history)
 abbrev pub clock_of : History → ℕ
 clock_of history = length (past_of history)
 
--- which images a crash from the t-th operation on might have left
+-- the images of crashes from the t-th operation on
 abbrev pub left_of : History → ℕ → List ℕ → Type 0
 left_of history = LeftSince history.start.items (past_of history)
 

@@ -5,6 +5,8 @@ pub mod History
 pub mod HistoryView
 pub mod Past
 pub mod Told
+pub mod Pick
+pub mod Replay
 pub mod Plan
 pub mod Counts
 pub mod Memory

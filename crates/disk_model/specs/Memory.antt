@@ -3,7 +3,8 @@ use Rattle.std.specs.Prelude.{◌≡◌, ◌⊎◌, ◌↔◌, ℕ, ◌+◌, ◌
 use Rattle.fault_counts.specs.Counts.{raised, Rose}
 use Rattle.disk_model.specs.Bytes.{patched, Torn}
 use Rattle.disk_model.specs.Moments.{Reaches}
-use Rattle.disk_model.specs.HistoryView.{images_of, clock_of, left_of}
+use Rattle.disk_model.specs.HistoryView.{past_of, images_of, clock_of, left_of}
+use Rattle.disk_model.specs.Pick.{IsPicked}
 use Rattle.disk_model.specs.Plan.{Counted, names}
 use Rattle.disk_model.specs.Counts.{covered}
 use Rattle.disk_model.specs.declared.plan.CallKind.{CallKind}
@@ -20,7 +21,7 @@ seen_of disk = disk.history.bytes.items
 abbrev pub known_of : MemDisk → ℕ
 known_of disk = length (seen_of disk)
 
--- which images a crash now may leave
+-- the images of a crash now
 abbrev pub may_leave_of : MemDisk → List ℕ → Type 0
 may_leave_of disk = images_of disk.history
 
@@ -28,7 +29,7 @@ may_leave_of disk = images_of disk.history
 abbrev pub moment_of : MemDisk → ℕ
 moment_of disk = clock_of disk.history
 
--- which images a crash at some moment from that one on might have left
+-- the images of crashes at that moment or later
 abbrev pub left_since_of : MemDisk → ℕ → List ℕ → Type 0
 left_since_of disk = left_of disk.history
 
@@ -56,6 +57,10 @@ calls_of_kind disk = covered disk.counts
 abbrev pub calls_of : MemDisk → ℕ
 calls_of disk = calls_of_kind disk Any
 
+-- These bytes are the image of a crash now that a number picks: right after a sync, for each number, the contents.
+abbrev pub IsPickedFrom : MemDisk → ℕ → List ℕ → Type 0
+IsPickedFrom disk = IsPicked disk.history.start.items (past_of disk.history)
+
 -- a count with n more, as far as its type goes
 abbrev pub raised_by : ℕ → ℕ → ℕ
 raised_by n count = min (count + n) (2 ^ 64 - 1)
@@ -68,8 +73,8 @@ pub record Undisturbed (old new : MemDisk) : Type 0 where
   pub images : (c : List ℕ) → may_leave_of new c ↔ may_leave_of old c
   pub since : (t : ℕ) (c : List ℕ) → left_since_of new t c ↔ left_since_of old t c
 
--- The answer of a call: it is counted, and fails exactly where the plan names it or `starved` rose in it. A failure is
--- counted once.
+-- The answer of a call, which is counted: a call that the plan names fails, and so does one that raises `starved`, and
+-- no other. A failure is counted once.
 pub record Answers {T E : Type 0} (call : DeviceCall) (old new : MemDisk) (result : Result T E) : Type 0 where
   pub plan : plan_of new ≡ plan_of old
   pub counted : Counted call (calls_of_kind old) (calls_of_kind new)

@@ -20,7 +20,7 @@ covers kind call = false
 abbrev pub Counted : DeviceCall → (CallKind → ℕ) → (CallKind → ℕ) → Type 0
 Counted call old new = (kind : CallKind) → new kind ≡ (if covers kind call then raised (old kind) else old kind)
 
--- The plan names the call that was counted last. `From { call: 3 }` names the third call and all later ones,
+-- The plan names the call that was counted last. `From { call: 3 }` names each call from the third on,
 -- `One { kind: Sync, number: 2 }` the second sync alone.
 abbrev pub names : FailPlan → DeviceCall → (CallKind → ℕ) → Bool
 names Never call count = false

@@ -40,7 +40,7 @@ impl Counts {
         }
     }
 
-    /// Sets the plan, and starts the counting of calls again.
+    /// Sets the plan, and counts calls from 0 again.
     pub fn set_plan(&mut self, plan: FailPlan)
         ensures plan { self.new.plan ≡ plan }
         ensures calls { (kind : _) → covered self.new kind ≡ 0 }

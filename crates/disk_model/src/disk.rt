@@ -6,20 +6,21 @@ ghost use Rattle.disk_model.specs.Moments.{Only, Follows, Elapses};
 
 use thiserror::Error;
 
-/// A call failed on the device. The disk's count of faults rose in that call.
+/// A call failed on the device, which the disk's count of faults tells, too.
 #[derive(Clone, Copy, Debug, PartialEq, Eq, Drop, Error)]
 #[error("the disk failed")]
 pub struct DiskFailed;
 
 /// A block device of bytes at offsets from 0, which may fail in each call and lose power at each moment.
 ///
-/// Until a `sync` answers Ok, a crash may leave any bytes in the ranges that were written since the last one, whether
-/// the writes answered Ok or not, and either length where the length was set. All other bytes stay. After a `sync` that
-/// answered Ok a crash leaves what a read gives. Power can be lost in a call or between two calls, so a call says what
-/// was left since its start. An image is the whole of the bytes that a crash leaves.
+/// What is written becomes stable by the next `sync` that answers Ok. A crash before then may put any bytes into each
+/// range that was written, no matter what the write answered, and may keep the old length or take the new one where the
+/// length was set. Nothing else is touched. Right after that `sync` a crash leaves exactly the contents. Power can be
+/// lost in a call or between two calls, so a call says what was left since its start. An image is the whole of the bytes
+/// that a crash leaves.
 ///
-/// All offsets, lengths and sizes are in bytes. Each method answers `DiskFailed` only where the count of faults rose in
-/// that call, and says what stands after it, too.
+/// All offsets, lengths and sizes are in bytes. A method that answers `DiskFailed` has raised the count of faults, and
+/// its clauses say what stands after that, too.
 pub trait Disk {
     /// The fact that this kind of disk tells its contents, its doubt, its images and its clock: the one-element type
     /// for a disk in memory, the empty type for a file.
@@ -28,10 +29,10 @@ pub trait Disk {
     /// The greatest length that `set_size` may be given, in bytes. It never changes.
     ghost most: { ℕ };
 
-    /// The known length in bytes: the one that was last asked for or set. Where the contents are told, it is theirs.
+    /// The known length in bytes: the one that was last asked for or set. A disk that tells its contents knows theirs.
     ghost known: { Self → ℕ };
 
-    /// How often the device failed. The count never falls, and stays at 2^64 - 1 once it is there.
+    /// How often the device failed. The count never falls, and ends at 2^64 - 1.
     ghost faults: { Self → ℕ };
 
     /// How many bytes were written. The count never falls, and only `write_at` raises it.
@@ -44,16 +45,16 @@ pub trait Disk {
     /// by themselves.
     ghost in_doubt: { Self → Bool };
 
-    /// Which images a crash at this moment may leave.
+    /// The images of a crash at this moment: the contents that it may leave.
     ghost may_leave: { Self → List ℕ → Type 0 };
 
-    /// The clock: a number of this moment. It never falls.
+    /// The clock: a number for this moment. No later moment has a smaller one.
     ghost moment: { Self → ℕ };
 
-    /// Which images a crash at some moment from that one on might have left, in a call or between two.
+    /// The images of crashes at that moment or later, in a call or between two.
     ghost left_since: { Self → ℕ → List ℕ → Type 0 };
 
-    /// Asks the device for its length in bytes, which is the known length from then on.
+    /// Asks the device how many bytes it has. From then on that is the known length.
     ///
     /// A failure keeps the known length. The contents and the images stay.
     fn size(&mut self) -> Result<u64, DiskFailed>
@@ -69,8 +70,8 @@ pub trait Disk {
 
     /// Sets the length to `bytes`, cutting the contents or filling them up with zeros.
     ///
-    /// After a failure the known length is the old one or the new one, and the disk may be in doubt. Until the next
-    /// `sync` that answers Ok an image may have either length. Bytes below both lengths stay.
+    /// A failure leaves the old or the new length as the known one, and the disk may be in doubt. A crash before the next
+    /// `sync` that answers Ok leaves the one length or the other. What lies below both is kept.
     fn set_size(&mut self, bytes: u64) -> Result<(), DiskFailed>
         requires { bytes ≤ most }
         ensures known { OnOk result (known self.new ≡ bytes) }
@@ -98,9 +99,9 @@ pub trait Disk {
         ensures contents { tells → in_doubt self.old ≡ false → seen self.new ≡ seen self.old }
         ensures doubt { tells → in_doubt self.old ≡ false → in_doubt self.new ≡ false };
 
-    /// Writes `bytes` from `offset` on. Until the next `sync` that answers Ok, a crash may leave any bytes in that range.
+    /// Writes `bytes` from `offset` on. A crash before the next `sync` that answers Ok may leave anything in that range.
     ///
-    /// After a failure a read may give any bytes in the range, and the disk may be in doubt. Bytes outside stay.
+    /// After a failure the contents may be anything in the range, and the disk may be in doubt. Nothing else changes.
     fn write_at(&mut self, offset: u64, bytes: &[u8]) -> Result<(), DiskFailed>
         requires { offset + length bytes.now ≤ known self.old }
         ensures known { known self.new ≡ known self.old }
@@ -114,7 +115,7 @@ pub trait Disk {
         ensures read_back { tells → OnOk result (part offset (length bytes.now) (seen self.new) ≡ bytes.now) }
         ensures doubt { tells → OnOk result (in_doubt self.old ≡ false → in_doubt self.new ≡ false) };
 
-    /// Makes all that was written stable: after Ok a crash leaves the contents and nothing else, and no doubt is left.
+    /// Makes the contents stable: after Ok a crash leaves them and nothing else, and no doubt is left.
     ///
     /// After a failure the images and the contents are as before, and no doubt begins.
     fn sync(&mut self) -> Result<(), DiskFailed>
@@ -129,11 +130,11 @@ pub trait Disk {
         ensures contents { tells → in_doubt self.old ≡ false → seen self.new ≡ seen self.old }
         ensures doubt { tells → in_doubt self.old ≡ false → in_doubt self.new ≡ false };
 
-    /// The count of faults, without asking the device.
+    /// How often the device failed so far. The device isn't asked.
     fn faults(&self) -> u64
         ensures { result ≡ faults self.now };
 
-    /// The known length in bytes, without asking the device.
+    /// The known length in bytes. The device isn't asked.
     fn known_size(&self) -> u64
         ensures { result ≡ known self.now };
 

@@ -27,8 +27,16 @@ impl History {
         ensures start { IfOk result (λ history. history.start.items ≡ replicate size 0) }
         ensures operations { IfOk result (λ history. history.operations.items ≡ []) }
     {
-        let start = vec![in alloc; 0; size]?;
-        let bytes = vec![in alloc; 0; size]?;
+        History::holding(alloc, vec![in alloc; 0; size]?)
+    }
+
+    /// These bytes, and no operation.
+    pub fn holding(alloc: Global, bytes: Vec<u8>) -> Result<History, AllocError>
+        ensures now { IfOk result (λ history. history.bytes.items ≡ bytes.items) }
+        ensures start { IfOk result (λ history. history.start.items ≡ bytes.items) }
+        ensures operations { IfOk result (λ history. history.operations.items ≡ []) }
+    {
+        let start = bytes.to_vec(alloc)?;
         Ok(History {
             alloc,
             start,

@@ -8,6 +8,9 @@
 mod counts;
 mod disk;
 mod history;
+mod image;
+#[cfg(test)]
+mod image_tests;
 mod memory;
 mod operation;
 mod plan;

@@ -8,6 +8,7 @@ ghost use Rattle.disk_model.specs.Told.{bytes_are_image};
 
 use crate::counts::Counts;
 use crate::history::History;
+use crate::image::image_bytes;
 use crate::plan::DeviceCall;
 use crate::{Disk, DiskFailed, FailPlan};
 use std::alloc::{AllocError, Global};
@@ -22,7 +23,7 @@ pub struct MemDisk {
 }
 
 impl MemDisk {
-    ghost use Rattle.disk_model.specs.Memory.{seen_of, may_leave_of, left_since_of, moment_of, faults_of, written_of, starved_of, plan_of, calls_of, calls_of_kind, Undisturbed};
+    ghost use Rattle.disk_model.specs.Memory.{seen_of, may_leave_of, left_since_of, moment_of, faults_of, written_of, starved_of, plan_of, calls_of, calls_of_kind, Undisturbed, IsPickedFrom};
 
     /// A disk of so many zero bytes, at most 64 MiB, all stable. No call fails, and all counts are 0.
     ///
@@ -45,7 +46,37 @@ impl MemDisk {
         })
     }
 
-    /// Sets which calls fail, and starts the counting of calls again at 0. All else stays.
+    /// A new disk, all stable, that holds an image of a crash at this moment. No call of it fails, and its counts are 0.
+    ///
+    /// Pick 0 gives the contents of the last `sync` that answered Ok, at the size of now. Pick 1 gives the contents now.
+    /// Another pick gives those of pick 0, but for the bytes that were written since that `sync`: each of them is the one
+    /// of pick 0, the one of pick 1 or another, as the number and the offset of the byte have it. The same pick gives the
+    /// same image each time.
+    ///
+    /// Answers `AllocError` where there is no memory for it. The time is in proportion to the size at the start and now,
+    /// and to all that was written and grown between.
+    pub fn image(&self, alloc: Global, pick: u64) -> Result<MemDisk, AllocError>
+        ensures picked { IfOk result (λ disk. IsPickedFrom self.now pick (seen_of disk)) }
+        ensures image { IfOk result (λ disk. may_leave_of self.now (seen_of disk)) }
+        ensures stable { IfOk result (λ disk. Only (seen_of disk) (may_leave_of disk)) }
+        ensures moment { IfOk result (λ disk. moment_of disk ≡ 0) }
+        ensures faults { IfOk result (λ disk. faults_of disk ≡ 0) }
+        ensures written { IfOk result (λ disk. written_of disk ≡ 0) }
+        ensures starved { IfOk result (λ disk. starved_of disk ≡ 0) }
+        ensures plan { IfOk result (λ disk. plan_of disk ≡ FailPlan.Never) }
+        ensures calls { IfOk result (λ disk. (kind : _) → calls_of_kind disk kind ≡ 0) }
+    {
+        let bytes = image_bytes(&self.history, alloc, pick)?;
+        let history = History::holding(alloc, bytes)?;
+        let counts = Counts::new();
+        Ok(MemDisk {
+            history,
+            counts,
+            written: 0,
+        })
+    }
+
+    /// From now on this plan says which calls fail, and calls are counted from 0. All else stays.
     pub fn plan(&mut self, plan: FailPlan)
         ensures plan { plan_of self.new ≡ plan }
         ensures calls { (kind : _) → calls_of_kind self.new kind ≡ 0 }
@@ -57,7 +88,7 @@ impl MemDisk {
     }
 
     /// How many calls of `size`, `set_size`, `read_at`, `write_at` and `sync` came since the plan was set. The count
-    /// stays at 2^64 - 1 once it is there.
+    /// ends at 2^64 - 1.
     pub fn calls(&self) -> u64
         ensures { result ≡ calls_of self.now }
     {
@@ -173,8 +204,8 @@ impl Disk for MemDisk {
         Ok(())
     }
 
-    /// Writes, also where the plan fails the call: then its range is unsynced, with the new bytes as the contents now. A
-    /// call that finds no memory changes nothing.
+    /// Writes, also where the plan fails the call: then, too, the contents have the new bytes, which aren't stable. A call
+    /// that finds no memory changes nothing.
     fn write_at(&mut self, offset: u64, bytes: &[u8]) -> Result<(), DiskFailed>
         requires { offset + length bytes.now ≤ known_of self.old }
         ensures wrote { OnOk result (Wrote offset bytes.now self.old self.new) }

@@ -20,9 +20,9 @@ pub enum CallKind {
 pub enum FailPlan {
     /// None.
     Never,
-    /// The call with this number and all later ones.
+    /// Each call from this number on.
     From { call: u64 },
-    /// The one call with this number among those of the kind.
+    /// Of the calls of this kind the one with this number, and no other.
     One { kind: CallKind, number: u64 },
 }
 

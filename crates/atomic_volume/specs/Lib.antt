@@ -1,0 +1,6 @@
+pub mod Opening
+pub mod Refusals
+pub mod Held
+pub mod Commits
+pub mod Opened
+pub mod Seen

@@ -1,0 +1,24 @@
+-- What callers see of what this crate hands out.
+use Rattle.std.specs.Prelude.{◌≡◌, ℕ, false, Some, List}
+use Rattle.disk_model.specs.Moments.{Only}
+use Rattle.disk_model.specs.declared.disk.Disk.{Ghosts}
+use Rattle.atomic_volume.specs.declared.fault.VolumeFault.{VolumeFault}
+use Rattle.atomic_volume.specs.Opening.{Contents, opened}
+use Rattle.atomic_volume.specs.Refusals.{Refuses}
+
+-- The found contents of a disk were read: they are one of the images that a crash at the call's start might leave, and
+-- what a read gave then where the disk wasn't in doubt. They are stable, and they open to this.
+pub record IsFound {X : Type 0} (d : Ghosts X) (old new : X) (contents : Contents) : Type 0 where
+  pub one_of_them : d.may_leave old (d.seen new)
+  pub as_seen : d.in_doubt old ≡ false → d.seen new ≡ d.seen old
+  pub stable : Only (d.seen new) (d.may_leave new)
+  pub settled : d.in_doubt new ≡ false
+  pub opens : opened (d.seen new) ≡ Some contents
+
+-- A disk was refused: so one of the images that a crash might leave at the call's start is refused, and that is what a read
+-- gave then where the disk wasn't in doubt.
+pub record IsRefused {X : Type 0} (d : Ghosts X) (old : X) (fault : VolumeFault) : Type 0 where
+  pub contents : List ℕ
+  pub one_of_them : d.may_leave old contents
+  pub as_seen : d.in_doubt old ≡ false → contents ≡ d.seen old
+  pub refuses : Refuses contents fault

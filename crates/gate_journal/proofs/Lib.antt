@@ -1,0 +1,14 @@
+pub mod Sizes
+pub mod NumberBytes
+pub mod Fronts
+pub mod ReadBatches
+pub mod WrittenBatches
+pub mod Gates
+pub mod Appends
+pub mod Parts
+pub mod Stages
+pub mod Bounds
+pub mod Appended
+pub mod Quiets
+pub mod Closed
+pub mod ReadSteps

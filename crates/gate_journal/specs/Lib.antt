@@ -1,0 +1,9 @@
+pub mod Places
+pub mod Batches
+pub mod Journal
+pub mod Halves
+pub mod Runs
+pub mod Gating
+pub mod Reading
+pub mod Appending
+pub mod Loading

@@ -1,0 +1,75 @@
+//! A journal half as it is known in memory.
+ghost use Rattle.std.specs.Prelude.{◌≡◌, ◌≤◌, ◌<◌, ◌^◌, true};
+ghost use Rattle.gate_journal.specs.Places.{records_size};
+
+use super::batches::{Batch, Range, Ranges};
+use super::places::{GATES, RECORDS_SIZE};
+use super::reading::may_follow;
+use std::alloc::Global;
+
+/// One of the two journal halves of a disk: the batches that count, and where the next one stands.
+#[derive(Debug, Drop)]
+pub struct Half {
+    pub alloc: Global,
+    pub half: u8,
+    pub size: u64,
+    pub count: u32,
+    pub used: u32,
+    pub last: Option<u64>,
+    pub ranges: Ranges,
+    pub behind: bool,
+    pub ghost half_is: { half ≤ 1 },
+    pub ghost count_is: { count ≤ 4096 },
+    pub ghost used_is: { used ≤ records_size },
+    pub ghost size_is: { size < 2 ^ 64 },
+}
+
+impl Half {
+    ghost use Rattle.std.specs.Prelude.{length};
+    ghost use Rattle.gate_journal.specs.Batches.{batch_bytes};
+    ghost use Rattle.gate_journal.specs.Halves.{size_of, journal_of, fits, MayFollow};
+
+    /// Whether a batch of so many bytes, its header of 16 bytes included, has room in the record area and a gate, and no
+    /// gate behind that one is open.
+    pub fn fits(&self, bytes: u32) -> bool
+        ensures { result ≡ fits (journal_of self.now) bytes }
+    {
+        self.has_room(u64::from(bytes))
+    }
+
+    /// Whether a batch may be appended: it fits, each of its ranges has bytes and stands in the volume, and its number is
+    /// the one behind the last, where there is a last.
+    pub fn accepts(&self, batch: &Batch) -> bool
+        ensures fits { result ≡ true → fits (journal_of self.now) (length (batch_bytes batch.now)) ≡ true }
+        ensures follows { result ≡ true → MayFollow (size_of self.now) (journal_of self.now) batch.now }
+        ensures other { fits (journal_of self.now) (length (batch_bytes batch.now)) ≡ true → MayFollow (size_of self.now) (journal_of self.now) batch.now → result ≡ true }
+    {
+        self.has_room(batch.encoded_len())
+            && may_follow(self.last, batch.number)
+            && batch.stands_in(self.size)
+    }
+
+    /// Whether so many bytes fit, also where they are more than a number of 4 bytes tells.
+    fn has_room(&self, bytes: u64) -> bool
+        ensures { result ≡ fits (journal_of self.now) bytes }
+    {
+        self.count < GATES
+            && !self.behind
+            && bytes <= RECORDS_SIZE
+            && u64::from(self.used) + bytes <= RECORDS_SIZE
+    }
+
+    /// The ranges of the open batches, in order.
+    pub fn replay_list(&self) -> &[Range]
+        ensures { result.now ≡ (journal_of self.now).ranges }
+    {
+        self.ranges.all()
+    }
+
+    /// The number of the last open batch, and None where no batch is open.
+    pub fn last(&self) -> Option<u64>
+        ensures { result ≡ (journal_of self.now).last }
+    {
+        self.last
+    }
+}
