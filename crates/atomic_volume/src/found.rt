@@ -100,6 +100,7 @@ impl<D: Disk> Found<D> {
         ensures journal { IfOk result (λ volume. journal_of volume.half ≡ journal_of self.half) }
         ensures working { IfOk result (λ volume. volume.failed ≡ false) }
         ensures device { IfErr result (λ refused. (refused.fault ≡ Device) × Rose (D.faults self.disk) (D.faults refused.kept)) }
+        ensures kept { IfErr result (λ refused. refused.kept ≡ self.disk) }
     {
         Ok(Volume {
             disk: self.disk,

@@ -1,0 +1,165 @@
+-- Images whose first blocks and tables are written.
+use Rattle.std.proofs.Common.{◌≡◌, ℕ, ◌+◌, ◌-◌, ◌*◌, ◌≤◌, Bool, false, eqb, eq-eqb, Option, Some, None, List, ◌++◌, length, get_or, take, drop, replicate, refl, sym, ◌∙◌, ap, arith, length-append, subst}
+use Rattle.std.proofs.lemmas.List.{take-take, take_all, drop-take, drop-drop, take_at, drop_at, append_assoc, length-take-le, length-replicate, take-replicate, drop-replicate}
+use Rattle.disk_model.specs.Bytes.{part, patched, resized}
+use Rattle.disk_model.specs.Past.{length-patched, length-resized, Torn-patched}
+use Rattle.disk_model.proofs.Places.{part-patched, torn_part_before}
+use Rattle.block_layout.specs.declared.geometry.Geometry.{Geometry}
+use Rattle.block_layout.specs.declared.superblock.SuperField.{SuperField}
+use Rattle.block_layout.specs.Super.{super_bytes, blocks_named, inodes_named, first_wrong}
+use Rattle.gate_journal.specs.Journal.{gates_of, is_open_behind, open_batches}
+use Rattle.gate_journal.specs.Loading.{empty}
+use Rattle.gate_journal.proofs.Closed.{closed_journal}
+use Rattle.atomic_volume.specs.Opening.{Contents, volume_area, or_blocks, superblock, put_on, replayed, opened, is_unbuilt}
+use Rattle.atomic_volume.specs.Refusals.{IsLaidOut}
+use Rattle.atomic_volume.specs.Held.{IsSized}
+use Rattle.atomic_volume.proofs.Bytes.{byte_read}
+use Rattle.atomic_volume.proofs.Laid.{quotient, good_length}
+use Rattle.atomic_volume.proofs.Replays.{known_from, opened_right, batches_are}
+use Rattle.plain_image.specs.Opened.{opened as tree_spelled}
+use Rattle.recovery.specs.Pictures.{where_last, tree_held, if_opened}
+use Rattle.recovery.specs.Fresh.{IsFresh, IsFront}
+use Rattle.recovery.proofs.Alone.{zeros_open}
+
+-- ---- what such an image opens to
+
+-- What stands where on a fresh image: its length, the superblock, a master byte of 0, closed gates and zeros at the volume's
+-- start.
+pub record Stands (g : Geometry) (c start : List ℕ) : Type 0 where
+  pub long : length c ≡ 4096 * g.blocks
+  pub named : take 36 c ≡ start
+  pub right : first_wrong start ≡ None
+  pub blocks : blocks_named start ≡ g.blocks
+  pub inodes : inodes_named start ≡ g.inodes
+  pub master : get_or c 4096 0 ≡ 0
+  pub gates : ℕ
+  pub closed : gates_of 0 c ≡ replicate gates 0
+  pub zeros : ℕ
+  pub rest : List ℕ
+  pub tables : volume_area c ≡ replicate zeros 0 ++ rest
+  pub some : 12 ≤ zeros
+
+laid_out : (g : Geometry) (c start : List ℕ) → Stands g c start → IsLaidOut c
+laid_out g c start is =
+    let sized : IsSized (length c) g.blocks = record { bytes = is.long; least = g.least_blocks; most = g.most_blocks } in
+    record {
+      length_is = good_length (length c) g.blocks sized;
+      super_is = ap (λ (n : ℕ). or_blocks (first_wrong (superblock c)) (eqb (blocks_named (superblock c)) n)) (quotient (length c) g.blocks sized)
+          ∙ ap (λ (l : List ℕ). or_blocks (first_wrong l) (eqb (blocks_named l) g.blocks)) is.named
+          ∙ ap (λ (w : Option SuperField). or_blocks w (eqb (blocks_named start) g.blocks)) is.right
+          ∙ ap (λ (b : Bool). or_blocks None b) (eq-eqb (blocks_named start) g.blocks is.blocks);
+    }
+
+pub fresh_where : (g : Geometry) (c start : List ℕ) → Stands g c start → IsFresh g c
+fresh_where g c start is =
+    let built : is_unbuilt c ≡ false = ap (λ (b : ℕ). eqb b 165) is.master in
+    let known = known_from (is_open_behind 0 c) (open_batches 0 (length (volume_area c)) c) empty (closed_journal is.gates 0 (length (volume_area c)) c is.closed) in
+    let blocks : blocks_named (superblock c) ≡ g.blocks = ap blocks_named is.named ∙ is.blocks in
+    let inodes : inodes_named (superblock c) ≡ g.inodes = ap inodes_named is.named ∙ is.inodes in
+    let opens : opened c ≡ Some (record { blocks = g.blocks; inodes = g.inodes; bytes = volume_area c; last = None }) =
+    opened_right c (laid_out g c start is)
+    ∙ ap (replayed (blocks_named (superblock c)) (inodes_named (superblock c)) (volume_area c)) (batches_are c 0 (length (volume_area c)) built refl refl ∙ known.are)
+    ∙ (λ i. Some (record { blocks = blocks i; inodes = inodes i; bytes = put_on (volume_area c) (known.ranges i); last = known.last i })) in
+    record {
+      contents = record { blocks = g.blocks; inodes = g.inodes; bytes = volume_area c; last = None };
+      opens = opens;
+      built = built;
+      blocks = refl;
+      inodes = refl;
+      no_batch = refl;
+      tree = ap (λ (o : Option Contents). if_opened tree_held o) opens ∙ ap (λ (l : List ℕ). where_last None (tree_spelled l)) is.tables ∙ ap (where_last None) (zeros_open is.zeros is.rest is.some);
+    }
+
+-- ---- what is written
+
+-- a part of what was written in front
+front_part : (old front : List ℕ) (k m : ℕ) → length front ≤ length old → k + m ≤ length front → part k m (patched old 0 front) ≡ part k m front
+front_part old front k m inside within =
+    sym (drop-take k m (patched old 0 front))
+    ∙ ap (λ (l : List ℕ). drop k l) (sym (take-take (k + m) (length front) (patched old 0 front) within) ∙ ap (λ (l : List ℕ). take (k + m) l) (part-patched old 0 front (omega (arith, inside))))
+    ∙ drop-take k m front
+
+-- and behind the superblock it is zeros
+zero_part : (start : List ℕ) (n k m : ℕ) → length start ≤ k → k + m ≤ length start + n → part k m (start ++ replicate n 0) ≡ replicate m 0
+zero_part start n k m behind within =
+    let at : length start + (k - length start) ≡ k = omega arith in
+    ap (λ (l : List ℕ). take m l)
+    (ap (λ (i : ℕ). drop i (start ++ replicate n 0)) (sym at) ∙ sym (drop-drop (k - length start) (length start) (start ++ replicate n 0))
+    ∙ ap (λ (l : List ℕ). drop (k - length start) l) (drop_at start (replicate n 0) (length start) refl) ∙ drop-replicate (k - length start) n 0)
+    ∙ take-replicate m (n - (k - length start)) 0 (omega arith)
+
+-- what was written at a place is at the front of what stands from there on
+from_place : (old : List ℕ) (place : ℕ) (bytes : List ℕ) → place + length bytes ≤ length old → drop place (patched old place bytes) ≡ bytes ++ drop (place + length bytes) old
+from_place old place bytes inside =
+    ap (λ (l : List ℕ). drop place l) (append_assoc (take place old) bytes (drop (place + length bytes) old))
+    ∙ drop_at (take place old) (bytes ++ drop (place + length bytes) old) place (length-take-le place old (omega (arith, inside)))
+
+-- a part of the whole that stands in the front
+whole_part : (old front tables : List ℕ) (place k m : ℕ) → length front ≤ place → place + length tables ≤ length old → k + m ≤ length front
+    → part k m (patched (patched old 0 front) place tables) ≡ part k m front
+whole_part old front tables place k m before inside within =
+    let long : length (patched old 0 front) ≡ length old = length-patched old 0 front (omega (arith, before, inside)) in
+    torn_part_before place (length tables) k m (patched old 0 front) (patched (patched old 0 front) place tables) (Torn-patched (patched old 0 front) place tables (omega (arith, long, inside))) (omega (arith, within, before))
+    ∙ front_part old front k m (omega (arith, before, inside)) within
+
+front_parts : (g : Geometry) (size len : ℕ) (old new start : List ℕ) → 36 ≤ size → old ≡ start → length start ≡ 36 → len ≡ 36 → new ≡ take size old ++ replicate (size - len) 0
+    → first_wrong start ≡ None → blocks_named start ≡ g.blocks → inodes_named start ≡ g.inodes → IsFront g size new
+front_parts g size len old new start room same start_long short is right blocks inodes =
+    let stands : new ≡ start ++ replicate (size - len) 0 = is ∙ ap (λ (l : List ℕ). take size l ++ replicate (size - len) 0) same ∙ ap (λ (l : List ℕ). l ++ replicate (size - len) 0) (take_all size start (omega (arith, start_long, room))) in
+    record {
+      superblock = start;
+      zeros = size - len;
+      stands = stands;
+      long = ap (λ (l : List ℕ). length l) stands ∙ omega (arith, length-append start (replicate (size - len) 0), length-replicate {A = ℕ} (size - len) 0, start_long, room, short);
+      superblock_long = start_long;
+      right = right;
+      blocks = blocks;
+      inodes = inodes;
+    }
+
+-- a superblock that is filled up with zeros
+pub front_is : (g : Geometry) (size len : ℕ) (old new : List ℕ) → 36 ≤ size → old ≡ super_bytes g.blocks g.inodes → len ≡ 36 → new ≡ take size old ++ replicate (size - len) 0
+    → first_wrong (super_bytes g.blocks g.inodes) ≡ None → blocks_named (super_bytes g.blocks g.inodes) ≡ g.blocks → inodes_named (super_bytes g.blocks g.inodes) ≡ g.inodes → IsFront g size new
+front_is g size len old new room same short is right blocks inodes = front_parts g size len old new (super_bytes g.blocks g.inodes) room same refl short is right blocks inodes
+
+-- The sizes of what is written: of the image, of the front, and of the zeros from a place on.
+pub record AreSizes (g : Geometry) (size front place zeros : ℕ) : Type 0 where
+  pub size_is : size ≡ 4096 * g.blocks
+  pub front_is : front ≡ 16384
+  pub place_is : place ≡ 1064960
+  pub zeros_are : zeros ≡ (g.first_data - 260) * 4096
+
+made : (g : Geometry) (old front tables : List ℕ) (size long place zeros : ℕ) → AreSizes g size long place zeros → (is : IsFront g long front) → tables ≡ replicate zeros 0
+    → Stands g (patched (patched (resized old size) 0 front) place tables) is.superblock
+made g old front tables size long place zeros sizes is are =
+    let resized_long : length (resized old size) ≡ size = length-resized old size in
+    let tables_long : length tables ≡ zeros = ap (λ (l : List ℕ). length l) are ∙ length-replicate {A = ℕ} zeros 0 in
+    let front_long : length front ≡ 16384 = is.long ∙ sizes.front_is in
+    let room : place + length tables ≤ length (resized old size) = omega (arith, resized_long, tables_long, sizes.size_is, sizes.place_is, sizes.zeros_are, g.data_to_the_end, g.least_data, g.first_data_place) in
+    let before : length front ≤ place = omega (arith, front_long, sizes.place_is) in
+    let behind : (k m : ℕ) → 36 ≤ k → k + m ≤ 16384 → part k m (patched (patched (resized old size) 0 front) place tables) ≡ replicate m 0 =
+    λ k m ge le. whole_part (resized old size) front tables place k m before room (omega (arith, front_long, le))
+    ∙ ap (λ (l : List ℕ). part k m l) is.stands
+    ∙ zero_part is.superblock is.zeros k m (omega (arith, is.superblock_long, ge)) (omega (arith, front_long, le, ap (λ (l : List ℕ). length l) is.stands, length-append is.superblock (replicate is.zeros 0), length-replicate {A = ℕ} is.zeros 0)) in
+    let middle_long : length (patched (resized old size) 0 front) ≡ length (resized old size) = length-patched (resized old size) 0 front (omega (arith, before, room)) in
+    record {
+      long = length-patched (patched (resized old size) 0 front) place tables (omega (arith, middle_long, room)) ∙ middle_long ∙ resized_long ∙ sizes.size_is;
+      named = whole_part (resized old size) front tables place 0 36 before room (omega (arith, front_long)) ∙ ap (λ (l : List ℕ). take 36 l) is.stands ∙ take_at is.superblock (replicate is.zeros 0) 36 is.superblock_long;
+      right = is.right;
+      blocks = is.blocks;
+      inodes = is.inodes;
+      master = byte_read 4096 (patched (patched (resized old size) 0 front) place tables) 0 (behind 4096 1 (omega arith) (omega arith));
+      gates = 4096;
+      closed = behind 8192 4096 (omega arith) (omega arith);
+      zeros = zeros;
+      rest = drop (place + length tables) (patched (resized old size) 0 front);
+      tables = ap (λ (k : ℕ). drop k (patched (patched (resized old size) 0 front) place tables)) (sym sizes.place_is) ∙ from_place (patched (resized old size) 0 front) place tables (omega (arith, middle_long, room)) ∙ ap (λ (l : List ℕ). l ++ drop (place + length tables) (patched (resized old size) 0 front)) are;
+      some = omega (arith, sizes.zeros_are, g.first_data_place, g.least_inodes);
+    }
+
+-- what four calls leave
+pub made_by : (g : Geometry) (old first second third seen bytes front tables : List ℕ) (size long place zeros : ℕ) → AreSizes g size long place zeros → IsFront g long front → bytes ≡ front → tables ≡ replicate zeros 0
+    → first ≡ resized old size → second ≡ patched first 0 bytes → third ≡ patched second place tables → seen ≡ third → IsFresh g seen
+made_by g old first second third seen bytes front tables size long place zeros sizes is same are a b c d =
+    let whole : seen ≡ patched (patched (resized old size) 0 front) place tables = d ∙ c ∙ ap (λ (l : List ℕ). patched l place tables) (b ∙ (λ i. patched (a i) 0 (same i))) in
+    subst (IsFresh g) (sym whole) (fresh_where g (patched (patched (resized old size) 0 front) place tables) is.superblock (made g old front tables size long place zeros sizes is are))

@@ -1,0 +1,106 @@
+//! What no clause of making says: that calls come through, and which bytes a made image holds.
+ghost use Rattle.std.specs.Prelude.{◌≡◌, ◌*◌, ◌^◌, ◌≤◌, IfOk};
+ghost use Rattle.disk_model.specs.Memory.{known_of};
+
+use super::*;
+use atomic_volume::look;
+use block_layout::Geometry;
+use disk_model::{CallKind, Disk, FailPlan, MemDisk};
+use std::alloc::Global;
+use std::test::Fail;
+
+/// The superblock of an image of 512 blocks and 32 inodes.
+const SUPERBLOCK: [u8; 36] = [
+    0x43, 0x43, 0x46, 0x53, 0x4F, 0x57, 0x4E, 0x31, 1, 0, 0, 0, 0, 2, 0, 0, 0x20, 0, 0, 0, 4, 1, 0,
+    0, 7, 1, 0, 0, 9, 1, 0, 0, 10, 1, 0, 0,
+];
+
+/// What stood on a disk before.
+const OLD: u8 = 0xEE;
+
+/// All bytes of a disk.
+fn contents(alloc: Global, disk: &mut MemDisk) -> Result<Vec<u8>, Fail> {
+    let mut bytes = vec![in alloc; 0; disk.known_size() as usize]?;
+    disk.read_at(0, &mut bytes)?;
+    Ok(bytes)
+}
+
+/// A disk of so many old bytes.
+fn old_disk(alloc: Global, bytes: u64) -> Result<MemDisk, Fail>
+    requires { bytes ≤ 64 * 2 ^ 20 }
+    ensures { IfOk result (λ disk. known_of disk ≡ bytes) }
+{
+    let mut disk = MemDisk::new(alloc, bytes)?;
+    let old = vec![in alloc; OLD; bytes as usize]?;
+    disk.write_at(0, &old)?;
+    Ok(disk)
+}
+
+/// The byte at a place of the image of 512 blocks and 32 inodes that is made where old bytes stood.
+fn made_byte(place: usize) -> u8 {
+    match place / 4096 {
+        0 => SUPERBLOCK.get(place).copied().unwrap_or(0),
+        1..4 | 260..266 => 0,
+        _ => OLD,
+    }
+}
+
+#[test]
+fn an_image_made_of_nothing_is_a_superblock_and_zeros(rt: HostRuntime) -> Result<(), Fail> {
+    let mut disk = MemDisk::new(rt.alloc(), 0)?;
+    make(rt.alloc(), &mut disk, &Geometry::of(512, 32)?)?;
+    assert_eq!(rt;
+        [disk.calls(), disk.faults(), disk.written()],
+        [4, 0, 4096 * 10]
+    );
+    let bytes = contents(rt.alloc(), &mut disk)?;
+    assert_eq!(rt; bytes.len(), 512 * 4096);
+    assert_eq!(rt; bytes.as_slice().starts_with(&SUPERBLOCK), true);
+    assert_eq!(rt; bytes.iter().skip(36).all(|byte| *byte == 0), true);
+    Ok(())
+}
+
+#[test]
+fn only_the_record_areas_and_the_data_keep_old_bytes(rt: HostRuntime) -> Result<(), Fail> {
+    for blocks in [512, 600] {
+        let mut disk = old_disk(rt.alloc(), blocks * 4096)?;
+        make(rt.alloc(), &mut disk, &Geometry::of(512, 32)?)?;
+        let mut stable = disk.image(rt.alloc(), 0)?;
+        let bytes = contents(rt.alloc(), &mut stable)?;
+        assert_eq!(rt; bytes.len(), 512 * 4096);
+        let mut place = 0;
+        for byte in bytes.as_slice() {
+            if *byte != made_byte(place) {
+                panic!(rt; "{byte} at {place}");
+            }
+            place = place.wrapping_add(1);
+        }
+    }
+    Ok(())
+}
+
+#[test]
+fn a_made_image_has_no_batch(rt: HostRuntime) -> Result<(), Fail> {
+    let mut disk = old_disk(rt.alloc(), 4096)?;
+    make(rt.alloc(), &mut disk, &Geometry::of(600, 64)?)?;
+    let looked = look(rt.alloc(), &mut disk)?;
+    assert_eq!(rt; looked.last, None);
+    assert_eq!(rt; [looked.geometry.blocks, looked.geometry.inodes], [600, 64]);
+    assert_eq!(rt; looked.bytes.len(), 340 * 4096);
+    Ok(())
+}
+
+#[test]
+fn a_failing_call_is_told(rt: HostRuntime) -> Result<(), Fail> {
+    for call in [1, 2, 3, 4] {
+        let mut disk = old_disk(rt.alloc(), 4096)?;
+        disk.plan(FailPlan::One {
+            kind: CallKind::Any,
+            number: call,
+        });
+        let made = make(rt.alloc(), &mut disk, &Geometry::of(512, 32)?);
+        assert_eq!(rt; made.err(), Some(MakeFault::Device));
+        assert_eq!(rt; [disk.calls(), disk.faults()], [call, 1]);
+    }
+    Ok(())
+}
