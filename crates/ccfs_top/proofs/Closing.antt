@@ -16,7 +16,7 @@ use Rattle.script_text.specs.Texts.{usage_line, too_long_line, bad_image_line, n
 use Rattle.ccfs_top.specs.declared.stop.Stop.{Stop}
 use Rattle.ccfs_top.specs.declared.stop.Stop.TheVariants.{Usage, Long, NotBuilt, Source, Sink, Disk, BadImage, NoMemory}
 use Rattle.ccfs_top.specs.Ends.{IsFront, IsSaid, IsFault, HasLine, Ends, EndsWith, joined}
-use Rattle.ccfs_top.specs.Runs.{Expected, alone, final_history, stopped, ran_until, over_found, over_script, expected}
+use Rattle.ccfs_top.specs.Runs.{Expected, plain_inodes, alone, final_history, stopped, ran_until, over_found, over_script, expected}
 use Rattle.ccfs_top.specs.Stops.{status_of, stop_line, IsNotBuilt, Told, Decides, Until, Grew}
 
 -- ---- a stop by the script
@@ -59,13 +59,13 @@ script_grew e NoMemory text kind halt = ([], sym (append-nil text), (0, omega ar
 abbrev IsPlain : Expected → Type 0
 IsPlain e = (e.status ≡ 0) ⊎ (e.batches ≡ 0)
 
-plain_ran : (k : ℕ) (n : Now) (h : List Entry) (o : Option ℕ) → IsPlain (ran_until k n h o)
-plain_ran k n h None = inl refl
-plain_ran k n h (Some line) = inr refl
+plain_ran : (inodes k : ℕ) (n : Now) (h : List Entry) (o : Option ℕ) → IsPlain (ran_until inodes k n h o)
+plain_ran inodes k n h None = inl refl
+plain_ran inodes k n h (Some line) = inr refl
 
 plain_found : (size : ℕ) (calls : List Call) (o : Option (ℕ × Rows)) → IsPlain (over_found size calls o)
 plain_found size calls None = inr refl
-plain_found size calls (Some o) = plain_ran o.0 (start o.1) (final_history size (start o.1) calls) (stopped size (start o.1) calls)
+plain_found size calls (Some o) = plain_ran plain_inodes o.0 (start o.1) (final_history plain_inodes size (start o.1) calls) (stopped plain_inodes size (start o.1) calls)
 
 plain_script : (found : List ℕ) (r : Result (List Call) ℕ) → IsPlain (over_script found r)
 plain_script found (Err line) = inr refl

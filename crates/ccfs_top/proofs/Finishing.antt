@@ -27,18 +27,18 @@ if_err (Err e) P Q f p = f e p
 
 -- ---- what is to come
 
-pub ran_done : (size k : ℕ) (n : Now) (calls : List Call) → stopped size n calls ≡ None → ran size k n calls ≡ finished k n (final_history size n calls)
-ran_done size k n calls is = ap (ran_until k n (final_history size n calls)) is
+pub ran_done : (inodes size k : ℕ) (n : Now) (calls : List Call) → stopped inodes size n calls ≡ None → ran inodes size k n calls ≡ finished inodes k n (final_history inodes size n calls)
+ran_done inodes size k n calls is = ap (ran_until inodes k n (final_history inodes size n calls)) is
 
-pub ran_halted : (size k : ℕ) (n : Now) (calls : List Call) (line : ℕ) → stopped size n calls ≡ Some line → ran size k n calls ≡ halted line (final_history size n calls)
-ran_halted size k n calls line is = ap (ran_until k n (final_history size n calls)) is
+pub ran_halted : (inodes size k : ℕ) (n : Now) (calls : List Call) (line : ℕ) → stopped inodes size n calls ≡ Some line → ran inodes size k n calls ≡ halted line (final_history inodes size n calls)
+ran_halted inodes size k n calls line is = ap (ran_until inodes k n (final_history inodes size n calls)) is
 
-until_replies : (k : ℕ) (n : Now) (h : List Entry) (o : Option ℕ) → (ran_until k n h o).replies ≡ (finished k n h).replies
-until_replies k n h None = refl
-until_replies k n h (Some line) = refl
+until_replies : (inodes k : ℕ) (n : Now) (h : List Entry) (o : Option ℕ) → (ran_until inodes k n h o).replies ≡ (finished inodes k n h).replies
+until_replies inodes k n h None = refl
+until_replies inodes k n h (Some line) = refl
 
-pub ran_replies : (size k : ℕ) (n : Now) (calls : List Call) → (ran size k n calls).replies ≡ replies size n calls
-ran_replies size k n calls = until_replies k n (final_history size n calls) (stopped size n calls)
+pub ran_replies : (inodes size k : ℕ) (n : Now) (calls : List Call) → (ran inodes size k n calls).replies ≡ replies inodes size n calls
+ran_replies inodes size k n calls = until_replies inodes k n (final_history inodes size n calls) (stopped inodes size n calls)
 
 -- ---- stops
 
@@ -52,9 +52,9 @@ fault_decides e Disk is = tt
 fault_decides e BadImage is = absurd is
 fault_decides e NoMemory is = tt
 
-pub halted_decides : (size k : ℕ) (n : Now) (calls : List Call) (s : Stop) (line : ℕ) → s ≡ NotBuilt line → stopped size n calls ≡ Some line → Decides (ran size k n calls) s
-halted_decides size k n calls s line at is =
-    subst (Decides (ran size k n calls)) (sym at) (subst (λ (z : Expected). Decides z (NotBuilt line)) (sym (ran_halted size k n calls line is)) (record { status = refl; last = refl; batches = refl }))
+pub halted_decides : (inodes size k : ℕ) (n : Now) (calls : List Call) (s : Stop) (line : ℕ) → s ≡ NotBuilt line → stopped inodes size n calls ≡ Some line → Decides (ran inodes size k n calls) s
+halted_decides inodes size k n calls s line at is =
+    subst (Decides (ran inodes size k n calls)) (sym at) (subst (λ (z : Expected). Decides z (NotBuilt line)) (sym (ran_halted inodes size k n calls line is)) (record { status = refl; last = refl; batches = refl }))
 
 all_lines : (e : Expected) → SomeLines e (joined e.replies)
 all_lines e = (length e.replies, omega arith, ap joined (sym (take_all (length e.replies) e.replies (omega arith))))

@@ -1,5 +1,5 @@
 -- What each call leaves of what the history left before it.
-use Rattle.std.proofs.Common.{◌≡◌, ◌≢◌, ℕ, ◌+◌, ◌≤◌, ◌<◌, Bool, true, false, cond, ltb, ◌&&◌, IsTrue, List, [], ◌∷◌, length, refl, sym, ap, ◌∙◌, subst, arith}
+use Rattle.std.proofs.Common.{◌≡◌, ◌≢◌, ℕ, ◌+◌, ◌-◌, ◌≤◌, ◌<◌, Bool, true, false, cond, ltb, ◌&&◌, IsTrue, List, [], ◌∷◌, length, refl, sym, ap, ◌∙◌, subst, arith}
 use Rattle.std.specs.Prelude.{is_some, is_none}
 use Rattle.std.specs.declared.option.Option.{Option}
 use Rattle.std.specs.declared.option.Option.TheVariants.{None, Some}
@@ -60,55 +60,55 @@ parent_dir t path d is = dir_there t (walk t (front_of path) 0) d is
 
 -- ---- what mkdir and create answer
 
-abbrev then_make : Now → Bool → List (List ℕ) → ℕ → Answer
-then_make n b path d = cond (is_some (entry n.tree d (last_of path))) (refused Exists) (cond (no_inode sizes n 0) (refused NoInode) (does (Make d (last_of path) n.next b)))
+abbrev then_make : ℕ → Now → Bool → List (List ℕ) → ℕ → Answer
+then_make inodes n b path d = cond (is_some (entry n.tree d (last_of path))) (refused Exists) (cond (no_inode (sizes inodes) n 0) (refused NoInode) (does (Make d (last_of path) n.next b)))
 
-pub make_at_root : (n : Now) (b : Bool) (path : List (List ℕ)) → path ≡ [] → make sizes n 0 b path ≡ (Refused Exists, None)
-make_at_root n b path is = ap (make sizes n 0 b) is
+pub make_at_root : (inodes : ℕ) (n : Now) (b : Bool) (path : List (List ℕ)) → path ≡ [] → make (sizes inodes) n 0 b path ≡ (Refused Exists, None)
+make_at_root inodes n b path is = ap (make (sizes inodes) n 0 b) is
 
 not_root : (path : List (List ℕ)) → path ≢ [] → is_root path ≡ false
 not_root [] ne = absurd (ne refl)
 not_root (p ∷ ps) ne = refl
 
-below_root : (n : Now) (b : Bool) (path : List (List ℕ)) → path ≢ [] → make sizes n 0 b path ≡ from_row (parent_walk n.tree path) (then_make n b path)
-below_root n b path ne = ap (λ (z : Bool). cond z (refused Exists) (from_row (parent_walk n.tree path) (then_make n b path))) (not_root path ne)
+below_root : (inodes : ℕ) (n : Now) (b : Bool) (path : List (List ℕ)) → path ≢ [] → make (sizes inodes) n 0 b path ≡ from_row (parent_walk n.tree path) (then_make inodes n b path)
+below_root inodes n b path ne = ap (λ (z : Bool). cond z (refused Exists) (from_row (parent_walk n.tree path) (then_make inodes n b path))) (not_root path ne)
 
-pub make_lost : (n : Now) (b : Bool) (path : List (List ℕ)) (cause : Refusal) → path ≢ [] → parent_walk n.tree path ≡ Err cause → make sizes n 0 b path ≡ (Refused cause, None)
-make_lost n b path cause ne lost = below_root n b path ne ∙ ap (λ (z : Result ℕ Refusal). from_row z (then_make n b path)) lost
+pub make_lost : (inodes : ℕ) (n : Now) (b : Bool) (path : List (List ℕ)) (cause : Refusal) → path ≢ [] → parent_walk n.tree path ≡ Err cause → make (sizes inodes) n 0 b path ≡ (Refused cause, None)
+make_lost inodes n b path cause ne lost = below_root inodes n b path ne ∙ ap (λ (z : Result ℕ Refusal). from_row z (then_make inodes n b path)) lost
 
-at_parent : (n : Now) (b : Bool) (path : List (List ℕ)) (d : ℕ) → path ≢ [] → parent_walk n.tree path ≡ Ok d → make sizes n 0 b path ≡ then_make n b path d
-at_parent n b path d ne found = below_root n b path ne ∙ ap (λ (z : Result ℕ Refusal). from_row z (then_make n b path)) found
+at_parent : (inodes : ℕ) (n : Now) (b : Bool) (path : List (List ℕ)) (d : ℕ) → path ≢ [] → parent_walk n.tree path ≡ Ok d → make (sizes inodes) n 0 b path ≡ then_make inodes n b path d
+at_parent inodes n b path d ne found = below_root inodes n b path ne ∙ ap (λ (z : Result ℕ Refusal). from_row z (then_make inodes n b path)) found
 
-pub make_exists : (n : Now) (b : Bool) (path : List (List ℕ)) (d : ℕ) → path ≢ [] → parent_walk n.tree path ≡ Ok d → is_some (entry n.tree d (last_of path)) ≡ true
-    → make sizes n 0 b path ≡ (Refused Exists, None)
-make_exists n b path d ne found there =
-    at_parent n b path d ne found ∙ ap (λ (z : Bool). cond z (refused Exists) (cond (no_inode sizes n 0) (refused NoInode) (does (Make d (last_of path) n.next b)))) there
+pub make_exists : (inodes : ℕ) (n : Now) (b : Bool) (path : List (List ℕ)) (d : ℕ) → path ≢ [] → parent_walk n.tree path ≡ Ok d → is_some (entry n.tree d (last_of path)) ≡ true
+    → make (sizes inodes) n 0 b path ≡ (Refused Exists, None)
+make_exists inodes n b path d ne found there =
+    at_parent inodes n b path d ne found ∙ ap (λ (z : Bool). cond z (refused Exists) (cond (no_inode (sizes inodes) n 0) (refused NoInode) (does (Make d (last_of path) n.next b)))) there
 
-free_there : (n : Now) (b : Bool) (path : List (List ℕ)) (d : ℕ) → path ≢ [] → parent_walk n.tree path ≡ Ok d → is_some (entry n.tree d (last_of path)) ≡ false
-    → make sizes n 0 b path ≡ cond (no_inode sizes n 0) (refused NoInode) (does (Make d (last_of path) n.next b))
-free_there n b path d ne found free =
-    at_parent n b path d ne found ∙ ap (λ (z : Bool). cond z (refused Exists) (cond (no_inode sizes n 0) (refused NoInode) (does (Make d (last_of path) n.next b)))) free
+free_there : (inodes : ℕ) (n : Now) (b : Bool) (path : List (List ℕ)) (d : ℕ) → path ≢ [] → parent_walk n.tree path ≡ Ok d → is_some (entry n.tree d (last_of path)) ≡ false
+    → make (sizes inodes) n 0 b path ≡ cond (no_inode (sizes inodes) n 0) (refused NoInode) (does (Make d (last_of path) n.next b))
+free_there inodes n b path d ne found free =
+    at_parent inodes n b path d ne found ∙ ap (λ (z : Bool). cond z (refused Exists) (cond (no_inode (sizes inodes) n 0) (refused NoInode) (does (Make d (last_of path) n.next b)))) free
 
-pub make_no_inode : (n : Now) (b : Bool) (path : List (List ℕ)) (d : ℕ) → path ≢ [] → parent_walk n.tree path ≡ Ok d → is_some (entry n.tree d (last_of path)) ≡ false
-    → 8191 ≤ len n.tree → make sizes n 0 b path ≡ (Refused NoInode, None)
-make_no_inode n b path d ne found free many =
-    let none : no_inode sizes n 0 ≡ true = over 8191 (len n.tree + 1 + unsealed_rows (without 0 n.unsealed)) (omega (arith, many)) in
-    free_there n b path d ne found free ∙ ap (λ (z : Bool). cond z (refused NoInode) (does (Make d (last_of path) n.next b))) none
+pub make_no_inode : (inodes : ℕ) (n : Now) (b : Bool) (path : List (List ℕ)) (d : ℕ) → path ≢ [] → parent_walk n.tree path ≡ Ok d → is_some (entry n.tree d (last_of path)) ≡ false
+    → inodes - 1 ≤ len n.tree → make (sizes inodes) n 0 b path ≡ (Refused NoInode, None)
+make_no_inode inodes n b path d ne found free many =
+    let none : no_inode (sizes inodes) n 0 ≡ true = over (inodes - 1) (len n.tree + 1 + unsealed_rows (without 0 n.unsealed)) (omega (arith, many)) in
+    free_there inodes n b path d ne found free ∙ ap (λ (z : Bool). cond z (refused NoInode) (does (Make d (last_of path) n.next b))) none
 
-pub make_done : (n : Now) (b : Bool) (path : List (List ℕ)) (d : ℕ) → path ≢ [] → parent_walk n.tree path ≡ Ok d → is_some (entry n.tree d (last_of path)) ≡ false
-    → OfMakes n.unsealed → len n.tree < 8191 → make sizes n 0 b path ≡ (Done, Some (Make d (last_of path) n.next b))
-make_done n b path d ne found free all few =
+pub make_done : (inodes : ℕ) (n : Now) (b : Bool) (path : List (List ℕ)) (d : ℕ) → path ≢ [] → parent_walk n.tree path ≡ Ok d → is_some (entry n.tree d (last_of path)) ≡ false
+    → OfMakes n.unsealed → len n.tree < inodes - 1 → make (sizes inodes) n 0 b path ≡ (Done, Some (Make d (last_of path) n.next b))
+make_done inodes n b path d ne found free all few =
     let rows = others_none n.unsealed all in
-    let some : no_inode sizes n 0 ≡ false = under 8191 (len n.tree + 1 + unsealed_rows (without 0 n.unsealed)) (omega (arith, rows, few)) in
-    free_there n b path d ne found free ∙ ap (λ (z : Bool). cond z (refused NoInode) (does (Make d (last_of path) n.next b))) some
+    let some : no_inode (sizes inodes) n 0 ≡ false = under (inodes - 1) (len n.tree + 1 + unsealed_rows (without 0 n.unsealed)) (omega (arith, rows, few)) in
+    free_there inodes n b path d ne found free ∙ ap (λ (z : Bool). cond z (refused NoInode) (does (Make d (last_of path) n.next b))) some
 
 -- the row that is made next, by the number of rows
-pub make_next : (n : Now) (t : Rows) (s w : ℕ) (b : Bool) (path : List (List ℕ)) (d : ℕ) (name : List ℕ) (rows : ℕ) → Stands n t s w → path ≢ [] → parent_walk t path ≡ Ok d → last_of path ≡ name
-    → is_some (entry t d name) ≡ false → rows ≡ len t → rows < 8191 → make sizes n 0 b path ≡ (Done, Some (Make d name rows b))
-make_next n t s w b path d name rows stands ne found last free all few =
+pub make_next : (inodes : ℕ) (n : Now) (t : Rows) (s w : ℕ) (b : Bool) (path : List (List ℕ)) (d : ℕ) (name : List ℕ) (rows : ℕ) → Stands n t s w → path ≢ [] → parent_walk t path ≡ Ok d → last_of path ≡ name
+    → is_some (entry t d name) ≡ false → rows ≡ len t → rows < inodes - 1 → make (sizes inodes) n 0 b path ≡ (Done, Some (Make d name rows b))
+make_next inodes n t s w b path d name rows stands ne found last free all few =
     let lent = ap len stands.tree in
     let next : n.next ≡ rows = stands.next ∙ sym lent ∙ sym all in
-    make_done n b path d ne (ap (λ (z : Rows). parent_walk z path) (sym stands.tree) ∙ found)
+    make_done inodes n b path d ne (ap (λ (z : Rows). parent_walk z path) (sym stands.tree) ∙ found)
     (ap (λ (z : Rows). is_some (entry z d (last_of path))) (sym stands.tree) ∙ ap (λ (z : List ℕ). is_some (entry t d z)) last ∙ free)
     stands.of_makes (omega (arith, lent, all, few))
     ∙ ap (λ (z : List ℕ). (Done, Some (Make d z n.next b))) last ∙ ap (λ (z : ℕ). (Done, Some (Make d name z b))) next
@@ -131,14 +131,14 @@ abbrev entry_with : Now → ℕ → Command → Answer → Entry
 entry_with n a c ans = record { actor = a; stream = stream_in n.choices a; command = c; reply = ans.0; update = ans.1 }
 
 -- mkdir and create, in the actor's stream
-in_stream : (n : Now) (a : ℕ) (b : Bool) (path : List (List ℕ)) (ans : Answer) → n.choices ≡ [] → make sizes n 0 b path ≡ ans → make sizes n (stream_in n.choices a) b path ≡ ans
-in_stream n a b path ans none is = ap (λ (z : ℕ). make sizes n z b path) (in_zero n a none) ∙ is
+in_stream : (inodes : ℕ) (n : Now) (a : ℕ) (b : Bool) (path : List (List ℕ)) (ans : Answer) → n.choices ≡ [] → make (sizes inodes) n 0 b path ≡ ans → make (sizes inodes) n (stream_in n.choices a) b path ≡ ans
+in_stream inodes n a b path ans none is = ap (λ (z : ℕ). make (sizes inodes) n z b path) (in_zero n a none) ∙ is
 
-stands_refused : (n : Now) (t : Rows) (s w a : ℕ) (c : Command) (cause : Refusal) → steps_by sizes n (entry_with n a c (Refused cause, None)) ≡ [] → choices_by n.choices a c ≡ n.choices
-    → Stands n t s w → Stands (entered_by sizes n (entry_with n a c (Refused cause, None))) t s w
-stands_refused n t s w a c cause none chosen stands =
-    let kept : unsealed_after n.unsealed (steps_by sizes n (entry_with n a c (Refused cause, None))) ≡ n.unsealed = ap (unsealed_after n.unsealed) none in
-    let quiet : closes (steps_by sizes n (entry_with n a c (Refused cause, None))) ≡ 0 = ap closes none in
+stands_refused : (inodes : ℕ) (n : Now) (t : Rows) (s w a : ℕ) (c : Command) (cause : Refusal) → steps_by (sizes inodes) n (entry_with n a c (Refused cause, None)) ≡ [] → choices_by n.choices a c ≡ n.choices
+    → Stands n t s w → Stands (entered_by (sizes inodes) n (entry_with n a c (Refused cause, None))) t s w
+stands_refused inodes n t s w a c cause none chosen stands =
+    let kept : unsealed_after n.unsealed (steps_by (sizes inodes) n (entry_with n a c (Refused cause, None))) ≡ n.unsealed = ap (unsealed_after n.unsealed) none in
+    let quiet : closes (steps_by (sizes inodes) n (entry_with n a c (Refused cause, None))) ≡ 0 = ap closes none in
     record {
       tree = stands.tree;
       seals = omega (arith, stands.seals, quiet);
@@ -150,21 +150,21 @@ stands_refused n t s w a c cause none chosen stands =
       made = stands.made;
     }
 
-pub performed_refused : (n : Now) (t : Rows) (size s w a : ℕ) (b : Bool) (path : List (List ℕ)) (cause : Refusal) → make sizes n 0 b path ≡ (Refused cause, None) → Stands n t s w
-    → Answered size n a (make_command b path) (Refused cause) t s w
-performed_refused n t size s w a true path cause is0 stands =
-    let is = in_stream n a true path (Refused cause, None) stands.choices is0 in
+pub performed_refused : (inodes : ℕ) (n : Now) (t : Rows) (size s w a : ℕ) (b : Bool) (path : List (List ℕ)) (cause : Refusal) → make (sizes inodes) n 0 b path ≡ (Refused cause, None) → Stands n t s w
+    → Answered inodes size n a (make_command b path) (Refused cause) t s w
+performed_refused inodes n t size s w a true path cause is0 stands =
+    let is = in_stream inodes n a true path (Refused cause, None) stands.choices is0 in
     record {
       reply = ap (λ (z : Answer). z.0) (sym is);
-      unblocked = ap (λ (z : Answer). forces_a_seal n (stream_in n.choices a) z.1) is;
-      stands = subst (λ (z : Answer). Stands (entered_by sizes n (entry_with n a (Mkdir path) z)) t s w) (sym is) (stands_refused n t s w a (Mkdir path) cause refl refl stands);
+      unblocked = ap (λ (z : Answer). forces_a_seal inodes n (stream_in n.choices a) z.1) is;
+      stands = subst (λ (z : Answer). Stands (entered_by (sizes inodes) n (entry_with n a (Mkdir path) z)) t s w) (sym is) (stands_refused inodes n t s w a (Mkdir path) cause refl refl stands);
     }
-performed_refused n t size s w a false path cause is0 stands =
-    let is = in_stream n a false path (Refused cause, None) stands.choices is0 in
+performed_refused inodes n t size s w a false path cause is0 stands =
+    let is = in_stream inodes n a false path (Refused cause, None) stands.choices is0 in
     record {
       reply = ap (λ (z : Answer). z.0) (sym is);
-      unblocked = ap (λ (z : Answer). forces_a_seal n (stream_in n.choices a) z.1) is;
-      stands = subst (λ (z : Answer). Stands (entered_by sizes n (entry_with n a (Create path) z)) t s w) (sym is) (stands_refused n t s w a (Create path) cause refl refl stands);
+      unblocked = ap (λ (z : Answer). forces_a_seal inodes n (stream_in n.choices a) z.1) is;
+      stands = subst (λ (z : Answer). Stands (entered_by (sizes inodes) n (entry_with n a (Create path) z)) t s w) (sym is) (stands_refused inodes n t s w a (Create path) cause refl refl stands);
     }
 
 first : (a b : Bool) → IsTrue (a && b) → IsTrue a
@@ -172,27 +172,27 @@ first true b is = refl
 first false b is = absurd (cc is)
 
 -- an update that makes the next row seals nothing, where fewer than 512 are unsealed
-free_made : (n : Now) (t : Rows) (s w a : ℕ) (u : Update) → Stands n t s w → w < 512 → len t < 8191 → serial_of u ≡ len t → is_name (name_of u) ≡ true → IsTrue (applies t u)
-    → forces_a_seal n (stream_in n.choices a) (Some u) ≡ false
-free_made n t s w a (Make d name x b) stands few room serial spelled fits =
+free_made : (inodes : ℕ) (n : Now) (t : Rows) (s w a : ℕ) (u : Update) → Stands n t s w → w < 512 → len t < inodes - 1 → serial_of u ≡ len t → is_name (name_of u) ≡ true → IsTrue (applies t u)
+    → forces_a_seal inodes n (stream_in n.choices a) (Some u) ≡ false
+free_made inodes n t s w a (Make d name x b) stands few room serial spelled fits =
     let lent = ap len stands.tree in
     let dir : IsTrue (is_dir_at t d) = first (is_dir_at t d) (is_none (entry t d name) && is_none (get t x)) fits in
-    ap (λ (z : ℕ). forces_a_seal n z (Some (Make d name x b))) (in_zero n a stands.choices)
-    ∙ not_full n.tree d x name b stands.made (subst (λ (z : Rows). IsTrue (is_dir_at z d)) stands.tree dir) (serial ∙ lent) spelled n.unsealed stands.of_makes
+    ap (λ (z : ℕ). forces_a_seal inodes n z (Some (Make d name x b))) (in_zero n a stands.choices)
+    ∙ not_full n.tree d x name b stands.made (subst (λ (z : Rows). IsTrue (is_dir_at z d)) stands.tree dir) (serial ∙ lent) spelled inodes n.unsealed stands.of_makes
     (omega (arith, room, lent)) (omega (arith, stands.unsealed))
-free_made n t s w a (Write id off bytes) stands few room serial spelled fits = absurd (cc spelled)
-free_made n t s w a (Resize id size) stands few room serial spelled fits = absurd (cc spelled)
-free_made n t s w a (Remove dir name id stays) stands few room serial spelled fits = absurd (cc spelled)
-free_made n t s w a (Move dir name to_dir to_name id is_dir replaced stays) stands few room serial spelled fits = absurd (cc spelled)
-free_made n t s w a (Release id) stands few room serial spelled fits = absurd (cc spelled)
+free_made inodes n t s w a (Write id off bytes) stands few room serial spelled fits = absurd (cc spelled)
+free_made inodes n t s w a (Resize id size) stands few room serial spelled fits = absurd (cc spelled)
+free_made inodes n t s w a (Remove dir name id stays) stands few room serial spelled fits = absurd (cc spelled)
+free_made inodes n t s w a (Move dir name to_dir to_name id is_dir replaced stays) stands few room serial spelled fits = absurd (cc spelled)
+free_made inodes n t s w a (Release id) stands few room serial spelled fits = absurd (cc spelled)
 
-stands_made : (n : Now) (t t' : Rows) (s w a : ℕ) (c : Command) (u : Update) → choices_by n.choices a c ≡ n.choices → Stands n t s w → w < 512 → len t < 8191
-    → serial_of u ≡ len t → is_name (name_of u) ≡ true → IsTrue (applies t u) → t' ≡ apply t u → Stands (entered_by sizes n (entry_with n a c (Done, Some u))) t' s (w + 1)
-stands_made n t t' s w a c (Make d name x b) chosen stands few room serial spelled fits made =
+stands_made : (inodes : ℕ) (n : Now) (t t' : Rows) (s w a : ℕ) (c : Command) (u : Update) → choices_by n.choices a c ≡ n.choices → Stands n t s w → w < 512 → len t < inodes - 1
+    → serial_of u ≡ len t → is_name (name_of u) ≡ true → IsTrue (applies t u) → t' ≡ apply t u → Stands (entered_by (sizes inodes) n (entry_with n a c (Done, Some u))) t' s (w + 1)
+stands_made inodes n t t' s w a c (Make d name x b) chosen stands few room serial spelled fits made =
     let u : Update = Make d name x b in
-    let steps : List (Step Charged) = call_steps sizes n.tree n.unsealed (Accepted (stream_in n.choices a) u) in
+    let steps : List (Step Charged) = call_steps (sizes inodes) n.tree n.unsealed (Accepted (stream_in n.choices a) u) in
     let l : steps ≡ Enter 0 (u, charge n.tree u) ∷ [] =
-    accepted_alone n (stream_in n.choices a) u (in_zero n a stands.choices) stands.of_makes (free_made n t s w a u stands few room serial spelled fits) in
+    accepted_alone inodes n (stream_in n.choices a) u (in_zero n a stands.choices) stands.of_makes (free_made inodes n t s w a u stands few room serial spelled fits) in
     let more : unsealed_after n.unsealed steps ≡ (0, (u, charge n.tree u)) ∷ n.unsealed = ap (unsealed_after n.unsealed) l in
     let none : closes steps ≡ 0 = ap closes l in
     let lent = ap len stands.tree in
@@ -209,46 +209,46 @@ stands_made n t t' s w a c (Make d name x b) chosen stands few room serial spell
       next = omega (arith, stands.next, grown);
       made = make_keeps n.tree d x name b stands.made (serial ∙ lent) dir spelled;
     }
-stands_made n t t' s w a c (Write id off bytes) chosen stands few room serial spelled fits made = absurd (cc spelled)
-stands_made n t t' s w a c (Resize id size) chosen stands few room serial spelled fits made = absurd (cc spelled)
-stands_made n t t' s w a c (Remove dir name id stays) chosen stands few room serial spelled fits made = absurd (cc spelled)
-stands_made n t t' s w a c (Move dir name to_dir to_name id is_dir replaced stays) chosen stands few room serial spelled fits made = absurd (cc spelled)
-stands_made n t t' s w a c (Release id) chosen stands few room serial spelled fits made = absurd (cc spelled)
+stands_made inodes n t t' s w a c (Write id off bytes) chosen stands few room serial spelled fits made = absurd (cc spelled)
+stands_made inodes n t t' s w a c (Resize id size) chosen stands few room serial spelled fits made = absurd (cc spelled)
+stands_made inodes n t t' s w a c (Remove dir name id stays) chosen stands few room serial spelled fits made = absurd (cc spelled)
+stands_made inodes n t t' s w a c (Move dir name to_dir to_name id is_dir replaced stays) chosen stands few room serial spelled fits made = absurd (cc spelled)
+stands_made inodes n t t' s w a c (Release id) chosen stands few room serial spelled fits made = absurd (cc spelled)
 
-pub performed_made : (n : Now) (t t' : Rows) (size s w a : ℕ) (b : Bool) (path : List (List ℕ)) (u : Update) → make sizes n 0 b path ≡ (Done, Some u) → Stands n t s w → w < 512 → len t < 8191
-    → serial_of u ≡ len t → is_name (name_of u) ≡ true → IsTrue (applies t u) → t' ≡ apply t u → Answered size n a (make_command b path) Done t' s (w + 1)
-performed_made n t t' size s w a true path u is0 stands few room serial spelled fits made =
-    let is = in_stream n a true path (Done, Some u) stands.choices is0 in
+pub performed_made : (inodes : ℕ) (n : Now) (t t' : Rows) (size s w a : ℕ) (b : Bool) (path : List (List ℕ)) (u : Update) → make (sizes inodes) n 0 b path ≡ (Done, Some u) → Stands n t s w → w < 512 → len t < inodes - 1
+    → serial_of u ≡ len t → is_name (name_of u) ≡ true → IsTrue (applies t u) → t' ≡ apply t u → Answered inodes size n a (make_command b path) Done t' s (w + 1)
+performed_made inodes n t t' size s w a true path u is0 stands few room serial spelled fits made =
+    let is = in_stream inodes n a true path (Done, Some u) stands.choices is0 in
     record {
       reply = ap (λ (z : Answer). z.0) (sym is);
-      unblocked = ap (λ (z : Answer). forces_a_seal n (stream_in n.choices a) z.1) is ∙ free_made n t s w a u stands few room serial spelled fits;
-      stands = subst (λ (z : Answer). Stands (entered_by sizes n (entry_with n a (Mkdir path) z)) t' s (w + 1)) (sym is)
-          (stands_made n t t' s w a (Mkdir path) u refl stands few room serial spelled fits made);
+      unblocked = ap (λ (z : Answer). forces_a_seal inodes n (stream_in n.choices a) z.1) is ∙ free_made inodes n t s w a u stands few room serial spelled fits;
+      stands = subst (λ (z : Answer). Stands (entered_by (sizes inodes) n (entry_with n a (Mkdir path) z)) t' s (w + 1)) (sym is)
+          (stands_made inodes n t t' s w a (Mkdir path) u refl stands few room serial spelled fits made);
     }
-performed_made n t t' size s w a false path u is0 stands few room serial spelled fits made =
-    let is = in_stream n a false path (Done, Some u) stands.choices is0 in
+performed_made inodes n t t' size s w a false path u is0 stands few room serial spelled fits made =
+    let is = in_stream inodes n a false path (Done, Some u) stands.choices is0 in
     record {
       reply = ap (λ (z : Answer). z.0) (sym is);
-      unblocked = ap (λ (z : Answer). forces_a_seal n (stream_in n.choices a) z.1) is ∙ free_made n t s w a u stands few room serial spelled fits;
-      stands = subst (λ (z : Answer). Stands (entered_by sizes n (entry_with n a (Create path) z)) t' s (w + 1)) (sym is)
-          (stands_made n t t' s w a (Create path) u refl stands few room serial spelled fits made);
+      unblocked = ap (λ (z : Answer). forces_a_seal inodes n (stream_in n.choices a) z.1) is ∙ free_made inodes n t s w a u stands few room serial spelled fits;
+      stands = subst (λ (z : Answer). Stands (entered_by (sizes inodes) n (entry_with n a (Create path) z)) t' s (w + 1)) (sym is)
+          (stands_made inodes n t t' s w a (Create path) u refl stands few room serial spelled fits made);
     }
 
-forced : (n : Now) (t : Rows) (s w a : ℕ) (u : Update) → Stands n t s w → 512 ≤ w → forces_a_seal n (stream_in n.choices a) (Some u) ≡ true
-forced n t s w a u stands many = ap (λ (z : ℕ). forces_a_seal n z (Some u)) (in_zero n a stands.choices) ∙ full n.tree u n.unsealed stands.of_makes (omega (arith, stands.unsealed))
+forced : (inodes : ℕ) (n : Now) (t : Rows) (s w a : ℕ) (u : Update) → Stands n t s w → 512 ≤ w → forces_a_seal inodes n (stream_in n.choices a) (Some u) ≡ true
+forced inodes n t s w a u stands many = ap (λ (z : ℕ). forces_a_seal inodes n z (Some u)) (in_zero n a stands.choices) ∙ full inodes n.tree u n.unsealed stands.of_makes (omega (arith, stands.unsealed))
 
-pub blocked_make : (n : Now) (t : Rows) (size s w a : ℕ) (b : Bool) (path : List (List ℕ)) (u : Update) → make sizes n 0 b path ≡ (Done, Some u) → Stands n t s w → 512 ≤ w
-    → is_blocked size n a (make_command b path) ≡ true
-blocked_make n t size s w a true path u is stands many =
-    ap (λ (z : Answer). forces_a_seal n (stream_in n.choices a) z.1) (in_stream n a true path (Done, Some u) stands.choices is) ∙ forced n t s w a u stands many
-blocked_make n t size s w a false path u is stands many =
-    ap (λ (z : Answer). forces_a_seal n (stream_in n.choices a) z.1) (in_stream n a false path (Done, Some u) stands.choices is) ∙ forced n t s w a u stands many
+pub blocked_make : (inodes : ℕ) (n : Now) (t : Rows) (size s w a : ℕ) (b : Bool) (path : List (List ℕ)) (u : Update) → make (sizes inodes) n 0 b path ≡ (Done, Some u) → Stands n t s w → 512 ≤ w
+    → is_blocked inodes size n a (make_command b path) ≡ true
+blocked_make inodes n t size s w a true path u is stands many =
+    ap (λ (z : Answer). forces_a_seal inodes n (stream_in n.choices a) z.1) (in_stream inodes n a true path (Done, Some u) stands.choices is) ∙ forced inodes n t s w a u stands many
+blocked_make inodes n t size s w a false path u is stands many =
+    ap (λ (z : Answer). forces_a_seal inodes n (stream_in n.choices a) z.1) (in_stream inodes n a false path (Done, Some u) stands.choices is) ∙ forced inodes n t s w a u stands many
 
 -- ---- streamsync
 
 -- the actor's stream is sealed
-sync_steps : (n : Now) (a : ℕ) → n.choices ≡ [] → call_steps sizes n.tree n.unsealed (SyncStream (stream_in n.choices a)) ≡ sealing (0 ∷ []) n.unsealed
-sync_steps n a none = ap (λ (z : ℕ). call_steps sizes n.tree n.unsealed (SyncStream z)) (in_zero n a none)
+sync_steps : (inodes : ℕ) (n : Now) (a : ℕ) → n.choices ≡ [] → call_steps (sizes inodes) n.tree n.unsealed (SyncStream (stream_in n.choices a)) ≡ sealing (0 ∷ []) n.unsealed
+sync_steps inodes n a none = ap (λ (z : ℕ). call_steps (sizes inodes) n.tree n.unsealed (SyncStream z)) (in_zero n a none)
 
 open_in : (n : Now) (a : ℕ) (b : Bool) → n.choices ≡ [] → is_open n.unsealed 0 ≡ b → is_open n.unsealed (stream_in n.choices a) ≡ b
 open_in n a b none is = ap (is_open n.unsealed) (in_zero n a none) ∙ is
@@ -257,11 +257,11 @@ open_in n a b none is = ap (is_open n.unsealed) (in_zero n a none) ∙ is
 pub length_plain : (k m : ℕ) (p : List Item) → length (plain_bytes k p) ≡ length (plain_bytes m p)
 length_plain k m p = refl
 
-pub synced_quiet : (n : Now) (t : Rows) (size s w a : ℕ) → Stands n t s w → w ≡ 0 → Answered size n a StreamSync (Synced s) t s w
-synced_quiet n t size s w a stands none =
+pub synced_quiet : (inodes : ℕ) (n : Now) (t : Rows) (size s w a : ℕ) → Stands n t s w → w ≡ 0 → Answered inodes size n a StreamSync (Synced s) t s w
+synced_quiet inodes n t size s w a stands none =
     let shut : is_open n.unsealed 0 ≡ false = open_none n.unsealed (omega (arith, stands.unsealed)) in
-    let done : List (Step Charged) = call_steps sizes n.tree n.unsealed (SyncStream (stream_in n.choices a)) in
-    let steps : done ≡ [] = sync_steps n a stands.choices ∙ sealing_none n.unsealed shut in
+    let done : List (Step Charged) = call_steps (sizes inodes) n.tree n.unsealed (SyncStream (stream_in n.choices a)) in
+    let steps : done ≡ [] = sync_steps inodes n a stands.choices ∙ sealing_none n.unsealed shut in
     let quiet : closes done ≡ 0 = ap closes steps in
     let kept : unsealed_after n.unsealed done ≡ n.unsealed = ap (unsealed_after n.unsealed) steps in
     record {
@@ -279,11 +279,11 @@ synced_quiet n t size s w a stands none =
       };
     }
 
-pub synced_sealed : (n : Now) (t : Rows) (size number s w a : ℕ) → Stands n t s w → 0 < w → length (plain_bytes number (picture t)) ≤ size → Answered size n a StreamSync (Synced (s + 1)) t (s + 1) 0
-synced_sealed n t size number s w a stands some fits =
+pub synced_sealed : (inodes : ℕ) (n : Now) (t : Rows) (size number s w a : ℕ) → Stands n t s w → 0 < w → length (plain_bytes number (picture t)) ≤ size → Answered inodes size n a StreamSync (Synced (s + 1)) t (s + 1) 0
+synced_sealed inodes n t size number s w a stands some fits =
     let open_ : is_open n.unsealed 0 ≡ true = open_some n.unsealed stands.of_makes (omega (arith, stands.unsealed)) in
-    let done : List (Step Charged) = call_steps sizes n.tree n.unsealed (SyncStream (stream_in n.choices a)) in
-    let steps : done ≡ Seal 0 ∷ [] = sync_steps n a stands.choices ∙ sealing_one n.unsealed open_ in
+    let done : List (Step Charged) = call_steps (sizes inodes) n.tree n.unsealed (SyncStream (stream_in n.choices a)) in
+    let steps : done ≡ Seal 0 ∷ [] = sync_steps inodes n a stands.choices ∙ sealing_one n.unsealed open_ in
     let one : closes done ≡ 1 = ap closes steps in
     let none : unsealed_after n.unsealed done ≡ [] = ap (unsealed_after n.unsealed) steps ∙ none_left n.unsealed stands.of_makes in
     let same = ap (λ (z : Rows). length (plain_bytes 0 (picture z))) stands.tree in
@@ -304,8 +304,8 @@ synced_sealed n t size number s w a stands some fits =
       };
     }
 
-pub blocked_sync : (n : Now) (t : Rows) (size number s w a : ℕ) → Stands n t s w → 0 < w → size < length (plain_bytes number (picture t)) → is_blocked size n a StreamSync ≡ true
-blocked_sync n t size number s w a stands some past =
+pub blocked_sync : (inodes : ℕ) (n : Now) (t : Rows) (size number s w a : ℕ) → Stands n t s w → 0 < w → size < length (plain_bytes number (picture t)) → is_blocked inodes size n a StreamSync ≡ true
+blocked_sync inodes n t size number s w a stands some past =
     let open_ : is_open n.unsealed 0 ≡ true = open_some n.unsealed stands.of_makes (omega (arith, stands.unsealed)) in
     let same = ap (λ (z : Rows). length (plain_bytes 0 (picture z))) stands.tree in
     let longs = length_plain number 0 (picture t) in
@@ -337,8 +337,8 @@ path_last_named path ne is = last_named path ne (first (list_all is_name path) _
 
 -- ---- other commands
 
-pub blocked_other : (n : Now) (size a : ℕ) (c : Command) → ((path : List (List ℕ)) → c ≡ Mkdir path → ⊥) → ((path : List (List ℕ)) → c ≡ Create path → ⊥) → (c ≡ StreamSync → ⊥) → is_blocked size n a c ≡ true
-blocked_other n size a (Mkdir path) no_mkdir no_create no_sync = absurd (no_mkdir path refl)
-blocked_other n size a (Create path) no_mkdir no_create no_sync = absurd (no_create path refl)
-blocked_other n size a StreamSync no_mkdir no_create no_sync = absurd (no_sync refl)
-blocked_other n size a c no_mkdir no_create no_sync = refl
+pub blocked_other : (inodes : ℕ) (n : Now) (size a : ℕ) (c : Command) → ((path : List (List ℕ)) → c ≡ Mkdir path → ⊥) → ((path : List (List ℕ)) → c ≡ Create path → ⊥) → (c ≡ StreamSync → ⊥) → is_blocked inodes size n a c ≡ true
+blocked_other inodes n size a (Mkdir path) no_mkdir no_create no_sync = absurd (no_mkdir path refl)
+blocked_other inodes n size a (Create path) no_mkdir no_create no_sync = absurd (no_create path refl)
+blocked_other inodes n size a StreamSync no_mkdir no_create no_sync = absurd (no_sync refl)
+blocked_other inodes n size a c no_mkdir no_create no_sync = refl

@@ -1,5 +1,5 @@
 -- Unsealed updates of stream 0 that each made a row: what they weigh, and what they seal.
-use Rattle.std.proofs.Common.{◌≡◌, ℕ, ◌+◌, ◌*◌, ◌≤◌, ◌<◌, Bool, true, false, cond, eqb, ltb, ◌&&◌, List, [], ◌∷◌, ◌++◌, length, refl, sym, ap, ◌∙◌, arith}
+use Rattle.std.proofs.Common.{◌≡◌, ℕ, ◌+◌, ◌-◌, ◌*◌, ◌≤◌, ◌<◌, Bool, true, false, cond, eqb, ltb, ◌&&◌, List, [], ◌∷◌, ◌++◌, length, refl, sym, ap, ◌∙◌, arith}
 use Rattle.std.specs.Prelude.{◌||◌, not, map, IsTrue}
 use Rattle.std.specs.List.{AllByRecursion, filter, list_any}
 use Rattle.std.specs.declared.option.Option.TheVariants.{Some}
@@ -142,40 +142,40 @@ module _ (t : Rows) (d x : ℕ) (name : List ℕ) (b : Bool) (made : IsMade t) (
   }
 
   -- it seals its stream exactly where 512 are unsealed there
-  own_is : (l : List (ℕ × Charged)) → OfMakes l → len t < 8191 → seals_own sizes t l 0 (Make d name x b) ≡ ltb transaction_limit (512 * length l + 512)
-  own_is l all few =
+  own_is : (inodes : ℕ) (l : List (ℕ × Charged)) → OfMakes l → len t < inodes - 1 → seals_own (sizes inodes) t l 0 (Make d name x b) ≡ ltb transaction_limit (512 * length l + 512)
+  own_is inodes l all few =
       let p = weight_all l all in let q = make_weighs in
       let r = none_after in let s = blocks_none l all in
       let g = grown in let o = rows_none l all in
       let blocks_left : live (apply t (Make d name x b)) + unsealed_blocks l ≡ 0 = omega (arith, r, s) in
-      let rows_left : len (apply t (Make d name x b)) + unsealed_rows l ≤ 8191 = omega (arith, g, o, few) in
-      let no_row : ltb 8191 (len (apply t (Make d name x b)) + unsealed_rows l) ≡ false = under 8191 (len (apply t (Make d name x b)) + unsealed_rows l) rows_left in
+      let rows_left : len (apply t (Make d name x b)) + unsealed_rows l ≤ inodes - 1 = omega (arith, g, o, few) in
+      let no_row : ltb (inodes - 1) (len (apply t (Make d name x b)) + unsealed_rows l) ≡ false = under (inodes - 1) (len (apply t (Make d name x b)) + unsealed_rows l) rows_left in
       let w : unsealed_weight 0 l + weight t (Make d name x b) ≡ 512 * length l + 512 = omega (arith, p, q) in
-      ap (λ (k : ℕ). ltb transaction_limit k || ltb 4294967295 (live (apply t (Make d name x b)) + unsealed_blocks l) || ltb 8191 (len (apply t (Make d name x b)) + unsealed_rows l)) w
-      ∙ ap (λ (k : ℕ). ltb transaction_limit (512 * length l + 512) || ltb 4294967295 k || ltb 8191 (len (apply t (Make d name x b)) + unsealed_rows l)) blocks_left
+      ap (λ (k : ℕ). ltb transaction_limit k || ltb 4294967295 (live (apply t (Make d name x b)) + unsealed_blocks l) || ltb (inodes - 1) (len (apply t (Make d name x b)) + unsealed_rows l)) w
+      ∙ ap (λ (k : ℕ). ltb transaction_limit (512 * length l + 512) || ltb 4294967295 k || ltb (inodes - 1) (len (apply t (Make d name x b)) + unsealed_rows l)) blocks_left
       ∙ ap (λ (k : Bool). ltb transaction_limit (512 * length l + 512) || false || k) no_row
       ∙ or_none (ltb transaction_limit (512 * length l + 512))
 
-  pub not_full : (l : List (ℕ × Charged)) → OfMakes l → len t < 8191 → length l < 512 → seals_own sizes t l 0 (Make d name x b) && is_open l 0 ≡ false
-  not_full l all few light =
+  pub not_full : (inodes : ℕ) (l : List (ℕ × Charged)) → OfMakes l → len t < inodes - 1 → length l < 512 → seals_own (sizes inodes) t l 0 (Make d name x b) && is_open l 0 ≡ false
+  not_full inodes l all few light =
       let no : ltb transaction_limit (512 * length l + 512) ≡ false = under 262144 (512 * length l + 512) (omega arith) in
-      ap (λ (k : Bool). k && is_open l 0) (own_is l all few ∙ no)
+      ap (λ (k : Bool). k && is_open l 0) (own_is inodes l all few ∙ no)
 
 -- an update seals its stream where 512 are unsealed there
-pub full : (t : Rows) (u : Update) (l : List (ℕ × Charged)) → OfMakes l → 512 ≤ length l → seals_own sizes t l 0 u && is_open l 0 ≡ true
-full t u l all many =
+pub full : (inodes : ℕ) (t : Rows) (u : Update) (l : List (ℕ × Charged)) → OfMakes l → 512 ≤ length l → seals_own (sizes inodes) t l 0 u && is_open l 0 ≡ true
+full inodes t u l all many =
     let p = weight_all l all in
     let w : 262144 < unsealed_weight 0 l + weight t u = omega (arith, p, many) in
     let yes : ltb transaction_limit (unsealed_weight 0 l + weight t u) ≡ true = over 262144 (unsealed_weight 0 l + weight t u) w in
-    ap (λ (k : Bool). (k || ltb 4294967295 (live (apply t u) + unsealed_blocks l) || ltb 8191 (len (apply t u) + unsealed_rows l)) && is_open l 0) yes ∙ open_some l all (omega arith)
+    ap (λ (k : Bool). (k || ltb 4294967295 (live (apply t u) + unsealed_blocks l) || ltb (inodes - 1) (len (apply t u) + unsealed_rows l)) && is_open l 0) yes ∙ open_some l all (omega arith)
 
 -- ---- the steps of an update of an actor that has left no stream
 
 pub in_zero : (n : Now) (a : ℕ) → n.choices ≡ [] → stream_in n.choices a ≡ 0
 in_zero n a is = ap (λ (z : List Choice). stream_in z a) is
 
-pub accepted_alone : (n : Now) (s : ℕ) (u : Update) → s ≡ 0 → OfMakes n.unsealed → forces_a_seal n s (Some u) ≡ false
-    → call_steps sizes n.tree n.unsealed (Accepted s u) ≡ Enter 0 (u, charge n.tree u) ∷ []
-accepted_alone n s u zero all free =
-    ap (λ (z : ℕ). call_steps sizes n.tree n.unsealed (Accepted z u)) zero
-    ∙ enters_alone (u, charge n.tree u) (seals_own sizes n.tree n.unsealed 0 u) n.unsealed all (ap (λ (z : ℕ). forces_a_seal n z (Some u)) (sym zero) ∙ free)
+pub accepted_alone : (inodes : ℕ) (n : Now) (s : ℕ) (u : Update) → s ≡ 0 → OfMakes n.unsealed → forces_a_seal inodes n s (Some u) ≡ false
+    → call_steps (sizes inodes) n.tree n.unsealed (Accepted s u) ≡ Enter 0 (u, charge n.tree u) ∷ []
+accepted_alone inodes n s u zero all free =
+    ap (λ (z : ℕ). call_steps (sizes inodes) n.tree n.unsealed (Accepted z u)) zero
+    ∙ enters_alone (u, charge n.tree u) (seals_own (sizes inodes) n.tree n.unsealed 0 u) n.unsealed all (ap (λ (z : ℕ). forces_a_seal inodes n z (Some u)) (sym zero) ∙ free)

@@ -9,17 +9,17 @@ use Rattle.ccfs_top.specs.Runs.{history, made, stopped}
 use Rattle.ccfs_top.specs.Sessions.{Stands}
 use Rattle.ccfs_top.specs.Stages.{sizes}
 
--- the history of the first i calls, and what it leaves
-abbrev pub history_to : Now → List Call → ℕ → List Entry
-history_to n0 calls i = history n0 (take i calls)
+-- the history of the first i calls, over an image with so many inodes, and what it leaves
+abbrev pub history_to : ℕ → Now → List Call → ℕ → List Entry
+history_to inodes n0 calls i = history inodes n0 (take i calls)
 
-abbrev pub now_at : Now → List Call → ℕ → Now
-now_at n0 calls i = now_after sizes n0 (history_to n0 calls i)
+abbrev pub now_at : ℕ → Now → List Call → ℕ → Now
+now_at inodes n0 calls i = now_after (sizes inodes) n0 (history_to inodes n0 calls i)
 
 -- the first i calls were performed, none was blocked, and a session with these numbers stands as their history leaves it
-pub record Reached (size : ℕ) (n0 : Now) (calls : List Call) (i : ℕ) (tree : Rows) (seals unsealed : ℕ) : Type 0 where
-  pub stands : Stands (now_at n0 calls i) tree seals unsealed
-  pub made : made size n0 calls ≡ take i calls ++ made size (now_at n0 calls i) (drop i calls)
-  pub stop : stopped size n0 calls ≡ stopped size (now_at n0 calls i) (drop i calls)
-  pub acknowledged : durable (history_to n0 calls i) ≡ seals
+pub record Reached (inodes size : ℕ) (n0 : Now) (calls : List Call) (i : ℕ) (tree : Rows) (seals unsealed : ℕ) : Type 0 where
+  pub stands : Stands (now_at inodes n0 calls i) tree seals unsealed
+  pub made : made inodes size n0 calls ≡ take i calls ++ made inodes size (now_at inodes n0 calls i) (drop i calls)
+  pub stop : stopped inodes size n0 calls ≡ stopped inodes size (now_at inodes n0 calls i) (drop i calls)
+  pub acknowledged : durable (history_to inodes n0 calls i) ≡ seals
   pub few : seals ≤ i

@@ -60,17 +60,17 @@ abbrev pub make_command : Bool → List (List ℕ) → Command
 make_command true path = Mkdir path
 make_command false path = Create path
 
--- a call that was answered so where the history left n: it wasn't blocked, the reply is that of its entry, and the session
--- stands as the entry leaves it
-pub record Answered (size : ℕ) (n : Now) (actor : ℕ) (command : Command) (answered : Reply) (t : Rows) (sealed waiting : ℕ) : Type 0 where
-  pub unblocked : is_blocked size n actor command ≡ false
-  pub reply : answered ≡ (entry_of sizes n actor command).reply
-  pub stands : Stands (entered_by sizes n (entry_of sizes n actor command)) t sealed waiting
+-- a call that was answered so where the history left n, over an image with so many inodes on a disk of that many bytes: it
+-- wasn't blocked, the reply is that of its entry, and the session stands as the entry leaves it
+pub record Answered (inodes size : ℕ) (n : Now) (actor : ℕ) (command : Command) (answered : Reply) (t : Rows) (sealed waiting : ℕ) : Type 0 where
+  pub unblocked : is_blocked inodes size n actor command ≡ false
+  pub reply : answered ≡ (entry_of (sizes inodes) n actor command).reply
+  pub stands : Stands (entered_by (sizes inodes) n (entry_of (sizes inodes) n actor command)) t sealed waiting
 
 -- the same, whatever was answered
-pub record Performed (size : ℕ) (n : Now) (actor : ℕ) (command : Command) (t : Rows) (sealed waiting : ℕ) : Type 0 where
-  pub unblocked : is_blocked size n actor command ≡ false
-  pub stands : Stands (entered_by sizes n (entry_of sizes n actor command)) t sealed waiting
+pub record Performed (inodes size : ℕ) (n : Now) (actor : ℕ) (command : Command) (t : Rows) (sealed waiting : ℕ) : Type 0 where
+  pub unblocked : is_blocked inodes size n actor command ≡ false
+  pub stands : Stands (entered_by (sizes inodes) n (entry_of (sizes inodes) n actor command)) t sealed waiting
 
 -- the contents spell this number and this picture, and no write that failed may still change them
 pub record Shows (in_doubt : Bool) (seen : List ℕ) (number : ℕ) (picture : List Item) : Type 0 where

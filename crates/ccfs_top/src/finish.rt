@@ -101,12 +101,12 @@ fn run_session<D: Disk, K: Sink>(
     requires no_seals { session.old.seals ≡ 0 }
     requires none_unsealed { session.old.unsealed ≡ 0 }
     requires shown { D.tells → Shows (D.in_doubt session.old.disk) (D.seen session.old.disk) session.old.number (picture session.old.tree) }
-    ensures status { D.tells → OnOk result ((ran (D.known session.old.disk) session.old.number (start session.old.tree) calls.now).status ≡ 0) }
-    ensures number { D.tells → IfOk result (λ n. n ≡ (ran (D.known session.old.disk) session.old.number (start session.old.tree) calls.now).batches) }
+    ensures status { D.tells → OnOk result ((ran session.old.inodes (D.known session.old.disk) session.old.number (start session.old.tree) calls.now).status ≡ 0) }
+    ensures number { D.tells → IfOk result (λ n. n ≡ (ran session.old.inodes (D.known session.old.disk) session.old.number (start session.old.tree) calls.now).batches) }
     ensures text { D.tells → K.tells → OnOk result (K.held out.new ≡ K.held out.old
-        ++ (joined (ran (D.known session.old.disk) session.old.number (start session.old.tree) calls.now).replies ++ (ran (D.known session.old.disk) session.old.number (start session.old.tree) calls.now).last)) }
-    ensures decides { D.tells → IfErr result (λ stop. Decides (ran (D.known session.old.disk) session.old.number (start session.old.tree) calls.now) stop) }
-    ensures grew { D.tells → K.tells → IfErr result (λ stop. Grew (ran (D.known session.old.disk) session.old.number (start session.old.tree) calls.now) stop (K.held out.old) (K.held out.new)) }
+        ++ (joined (ran session.old.inodes (D.known session.old.disk) session.old.number (start session.old.tree) calls.now).replies ++ (ran session.old.inodes (D.known session.old.disk) session.old.number (start session.old.tree) calls.now).last)) }
+    ensures decides { D.tells → IfErr result (λ stop. Decides (ran session.old.inodes (D.known session.old.disk) session.old.number (start session.old.tree) calls.now) stop) }
+    ensures grew { D.tells → K.tells → IfErr result (λ stop. Grew (ran session.old.inodes (D.known session.old.disk) session.old.number (start session.old.tree) calls.now) stop (K.held out.old) (K.held out.new)) }
     ensures sink_cause { IsErrOf result Stop.Sink → Rose (K.faults out.old) (K.faults out.new) }
     ensures kinds { (IsErrOf result Stop.Usage → ⊥) × (IsErrOf result Stop.Long → ⊥) × (IsErrOf result Stop.Source → ⊥) }
     ensures later { D.faults session.old.disk ≤ D.faults session.new.disk }

@@ -5,6 +5,7 @@ ghost use Rattle.tree_model.specs.Picture.{picture};
 ghost use Rattle.plain_image.specs.Opened.{opened};
 ghost use Rattle.ccfs_top.specs.Found.{IsFound};
 ghost use Rattle.ccfs_top.specs.Made.{IsMade};
+ghost use Rattle.ccfs_top.specs.Runs.{plain_inodes};
 ghost use Rattle.ccfs_top.specs.Sessions.{Shows};
 
 use crate::contents::{ReadFault, read_contents};
@@ -13,6 +14,9 @@ use ccfs_base::Returned;
 use disk_model::Disk;
 use plain_image::{PlainFault, open_picture};
 use std::alloc::Global;
+
+/// How many inodes a plain image has: its picture doesn't tell the number.
+const PLAIN_INODES: u32 = 8192;
 
 /// Makes the contents of the disk stable, asks for their length, and reads them.
 fn find_contents<D: Disk>(alloc: Global, disk: &mut D) -> Result<Vec<u8>, ReadFault>
@@ -39,6 +43,7 @@ pub fn open<D: Disk>(alloc: Global, disk: D) -> Result<Session<D>, Returned<Read
     ensures opened { D.tells → IfOk result (λ s. (found : List ℕ) × IsFound (D.may_leave disk) (D.in_doubt disk) (D.seen disk) found × (opened found ≡ Some (s.number, s.tree))
         × (length found ≡ D.known s.disk) × Shows (D.in_doubt s.disk) (D.seen s.disk) s.number (picture s.tree)) }
     ensures made { IfOk result (λ s. IsMade s.tree) }
+    ensures inodes { IfOk result (λ s. s.inodes ≡ plain_inodes) }
     ensures no_seals { IfOk result (λ s. s.seals ≡ 0) }
     ensures none_unsealed { IfOk result (λ s. s.unsealed ≡ 0) }
     ensures bad { D.tells → IfErr result (λ refused. refused.fault ≡ ReadFault.Bad → (found : List ℕ) × IsFound (D.may_leave disk) (D.in_doubt disk) (D.seen disk) found × (opened found ≡ None)) }
@@ -55,6 +60,7 @@ pub fn open<D: Disk>(alloc: Global, disk: D) -> Result<Session<D>, Returned<Read
         Ok(opened) => Ok(Session {
             disk,
             tree: opened.tree,
+            inodes: PLAIN_INODES,
             number: opened.number,
             seals: 0,
             unsealed: 0,

@@ -38,17 +38,18 @@ fn perform<D: Disk, K: Sink>(
 ) -> Result<(), RunFault>
     requires made { IsMade session.old.tree }
     requires room { session.old.seals < 2 ^ 64 - 1 }
-    ensures performed { (n : Now) → Stands n session.old.tree session.old.seals session.old.unsealed → OnOk result (Performed (D.known session.old.disk) n call.now.actor call.now.command session.new.tree session.new.seals session.new.unsealed) }
-    ensures text { K.tells → (n : Now) → Stands n session.old.tree session.old.seals session.old.unsealed → OnOk result (K.held out.new ≡ K.held out.old ++ line_of (entry_of sizes n call.now.actor call.now.command)) }
-    ensures sink { K.tells → (n : Now) → Stands n session.old.tree session.old.seals session.old.unsealed → IsErrOf result RunFault.Sink → (is_blocked (D.known session.old.disk) n call.now.actor call.now.command ≡ false)
-        × ((written : List ℕ) × (K.held out.new ≡ K.held out.old ++ written) × IsFront written (line_of (entry_of sizes n call.now.actor call.now.command))) }
+    ensures performed { (n : Now) → Stands n session.old.tree session.old.seals session.old.unsealed → OnOk result (Performed session.old.inodes (D.known session.old.disk) n call.now.actor call.now.command session.new.tree session.new.seals session.new.unsealed) }
+    ensures text { K.tells → (n : Now) → Stands n session.old.tree session.old.seals session.old.unsealed → OnOk result (K.held out.new ≡ K.held out.old ++ line_of (entry_of (sizes session.old.inodes) n call.now.actor call.now.command)) }
+    ensures sink { K.tells → (n : Now) → Stands n session.old.tree session.old.seals session.old.unsealed → IsErrOf result RunFault.Sink → (is_blocked session.old.inodes (D.known session.old.disk) n call.now.actor call.now.command ≡ false)
+        × ((written : List ℕ) × (K.held out.new ≡ K.held out.old ++ written) × IsFront written (line_of (entry_of (sizes session.old.inodes) n call.now.actor call.now.command))) }
     ensures sink_cause { IsErrOf result RunFault.Sink → Rose (K.faults out.old) (K.faults out.new) }
-    ensures blocked { (n : Now) → Stands n session.old.tree session.old.seals session.old.unsealed → (line : ℕ) → IsErrOf result (RunFault.NotBuilt line) → (line ≡ call.now.line) × (is_blocked (D.known session.old.disk) n call.now.actor call.now.command ≡ true) }
+    ensures blocked { (n : Now) → Stands n session.old.tree session.old.seals session.old.unsealed → (line : ℕ) → IsErrOf result (RunFault.NotBuilt line) → (line ≡ call.now.line) × (is_blocked session.old.inodes (D.known session.old.disk) n call.now.actor call.now.command ≡ true) }
     ensures unwritten { K.tells → (IsErrOf result RunFault.Sink → ⊥) → OnErr result (K.held out.new ≡ K.held out.old) }
     ensures quiet { OnOk result (session.new.seals ≡ session.old.seals → IsQuiet session.old.number session.new.number session.old.disk session.new.disk) }
     ensures sealed { OnOk result (session.new.seals ≢ session.old.seals → IsSealed session.old.number session.new.number session.old.seals session.new.seals session.new.unsealed) }
     ensures shows { D.tells → D.in_doubt session.old.disk ≡ false → OnOk result (session.new.seals ≢ session.old.seals → Shows (D.in_doubt session.new.disk) (D.seen session.new.disk) session.new.number (picture session.new.tree)) }
     ensures known { D.known session.new.disk ≡ D.known session.old.disk }
+    ensures inodes { session.new.inodes ≡ session.old.inodes }
     ensures later { D.faults session.old.disk ≤ D.faults session.new.disk }
     ensures sink_later { K.faults out.old ≤ K.faults out.new }
     ensures device { IsErrOf result RunFault.Disk → Rose (D.faults session.old.disk) (D.faults session.new.disk) }
@@ -80,18 +81,19 @@ pub fn perform_all<D: Disk, K: Sink>(
     requires no_seals { session.old.seals ≡ 0 }
     requires none_unsealed { session.old.unsealed ≡ 0 }
     requires shown { D.tells → Shows (D.in_doubt session.old.disk) (D.seen session.old.disk) session.old.number (picture session.old.tree) }
-    ensures done { OnOk result (stopped (D.known session.old.disk) (start session.old.tree) calls.now ≡ None) }
-    ensures text { K.tells → OnOk result (K.held out.new ≡ K.held out.old ++ joined (replies (D.known session.old.disk) (start session.old.tree) calls.now)) }
+    ensures done { OnOk result (stopped session.old.inodes (D.known session.old.disk) (start session.old.tree) calls.now ≡ None) }
+    ensures text { K.tells → OnOk result (K.held out.new ≡ K.held out.old ++ joined (replies session.old.inodes (D.known session.old.disk) (start session.old.tree) calls.now)) }
     ensures shows { D.tells → OnOk result (Shows (D.in_doubt session.new.disk) (D.seen session.new.disk)
-        (further session.old.number (durable (final_history (D.known session.old.disk) (start session.old.tree) calls.now)))
-        (picture (tree_at sizes (start session.old.tree) (final_history (D.known session.old.disk) (start session.old.tree) calls.now) (durable (final_history (D.known session.old.disk) (start session.old.tree) calls.now))))) }
-    ensures blocked { (line : ℕ) → IsErrOf result (RunFault.NotBuilt line) → (stopped (D.known session.old.disk) (start session.old.tree) calls.now ≡ Some line)
-        × (K.tells → K.held out.new ≡ K.held out.old ++ joined (replies (D.known session.old.disk) (start session.old.tree) calls.now)) }
+        (further session.old.number (durable (final_history session.old.inodes (D.known session.old.disk) (start session.old.tree) calls.now)))
+        (picture (tree_at (sizes session.old.inodes) (start session.old.tree) (final_history session.old.inodes (D.known session.old.disk) (start session.old.tree) calls.now) (durable (final_history session.old.inodes (D.known session.old.disk) (start session.old.tree) calls.now))))) }
+    ensures blocked { (line : ℕ) → IsErrOf result (RunFault.NotBuilt line) → (stopped session.old.inodes (D.known session.old.disk) (start session.old.tree) calls.now ≡ Some line)
+        × (K.tells → K.held out.new ≡ K.held out.old ++ joined (replies session.old.inodes (D.known session.old.disk) (start session.old.tree) calls.now)) }
     ensures sink { IsErrOf result RunFault.Sink → Rose (K.faults out.old) (K.faults out.new)
-        × (K.tells → (written : List ℕ) × (K.held out.new ≡ K.held out.old ++ written) × IsFront written (joined (replies (D.known session.old.disk) (start session.old.tree) calls.now))) }
-    ensures cut { K.tells → (IsErrOf result RunFault.Sink → ⊥) → OnErr result ((lines : ℕ) × (lines ≤ length (replies (D.known session.old.disk) (start session.old.tree) calls.now))
-        × (K.held out.new ≡ K.held out.old ++ joined (take lines (replies (D.known session.old.disk) (start session.old.tree) calls.now)))) }
+        × (K.tells → (written : List ℕ) × (K.held out.new ≡ K.held out.old ++ written) × IsFront written (joined (replies session.old.inodes (D.known session.old.disk) (start session.old.tree) calls.now))) }
+    ensures cut { K.tells → (IsErrOf result RunFault.Sink → ⊥) → OnErr result ((lines : ℕ) × (lines ≤ length (replies session.old.inodes (D.known session.old.disk) (start session.old.tree) calls.now))
+        × (K.held out.new ≡ K.held out.old ++ joined (take lines (replies session.old.inodes (D.known session.old.disk) (start session.old.tree) calls.now)))) }
     ensures known { D.known session.new.disk ≡ D.known session.old.disk }
+    ensures inodes { session.new.inodes ≡ session.old.inodes }
     ensures later { D.faults session.old.disk ≤ D.faults session.new.disk }
     ensures sink_later { K.faults out.old ≤ K.faults out.new }
     ensures device { IsErrOf result RunFault.Disk → Rose (D.faults session.old.disk) (D.faults session.new.disk) }

@@ -23,9 +23,6 @@ use plain_image::write_picture;
 use std::alloc::Global;
 use tree_model::{Tree, Update};
 
-/// How many rows a tree may have: one for each inode but the one that is set aside.
-const MAX_ROWS: usize = 8191;
-
 /// How many rows may be made between two syncs: what they weigh fills a transaction.
 const MAX_UNSEALED: u32 = 512;
 
@@ -44,6 +41,8 @@ pub enum StepFault {
 pub struct Session<D: Disk> {
     pub disk: D,
     pub tree: Tree,
+    /// The number of inodes of the image. The tree may have one row fewer, since one inode is set aside.
+    pub inodes: u32,
     /// The number of the picture on the disk.
     pub number: u64,
     /// The number of seals since the session was opened.
@@ -52,15 +51,15 @@ pub struct Session<D: Disk> {
     pub unsealed: u32,
 }
 
-/// What mkdir or create asks for: the update, or why it is refused.
-fn make_update(tree: &Tree, path: &Path, is_dir: bool) -> Result<Update, Refusal>
+/// What mkdir or create asks for over an image with so many inodes: the update, or why it is refused.
+fn make_update(tree: &Tree, inodes: u32, path: &Path, is_dir: bool) -> Result<Update, Refusal>
     requires { IsMade tree.now }
-    ensures update { (n : Now) (seals unsealed : ℕ) → Stands n tree.now seals unsealed → IfOk result (λ u. make sizes n 0 is_dir path.now ≡ (reply.Done, Some u)) }
+    ensures update { (n : Now) (seals unsealed : ℕ) → Stands n tree.now seals unsealed → IfOk result (λ u. make (sizes inodes) n 0 is_dir path.now ≡ (reply.Done, Some u)) }
     ensures applies { IfOk result (λ u. IsTrue (applies tree.now u)) }
     ensures serial { IfOk result (λ u. serial_of u ≡ len tree.now) }
-    ensures room { IfOk result (λ u. len tree.now < 8191) }
+    ensures room { IfOk result (λ u. len tree.now < inodes - 1) }
     ensures named { IfOk result (λ u. is_name (name_of u) ≡ true) }
-    ensures refused { (n : Now) (seals unsealed : ℕ) → Stands n tree.now seals unsealed → IfErr result (λ cause. make sizes n 0 is_dir path.now ≡ (reply.Refused cause, None)) }
+    ensures refused { (n : Now) (seals unsealed : ℕ) → Stands n tree.now seals unsealed → IfErr result (λ cause. make (sizes inodes) n 0 is_dir path.now ≡ (reply.Refused cause, None)) }
 {
     if path.is_root() {
         return Err(Refusal::Exists);
@@ -73,7 +72,8 @@ fn make_update(tree: &Tree, path: &Path, is_dir: bool) -> Result<Update, Refusal
         return Err(Refusal::Exists);
     }
     let rows = tree.len();
-    if rows >= MAX_ROWS {
+    let max_rows = inodes.saturating_sub(1) as usize;
+    if rows >= max_rows {
         return Err(Refusal::NoInode);
     }
     Ok(Update::Make {
@@ -123,15 +123,16 @@ impl<D: Disk> Session<D> {
     /// Performs mkdir or create.
     fn make(&mut self, path: &Path, is_dir: bool) -> Result<Reply, StepFault>
         requires { IsMade self.old.tree }
-        ensures ok { (n : Now) (size actor : ℕ) → Stands n self.old.tree self.old.seals self.old.unsealed → IfOk result (λ answer. Answered size n actor (make_command is_dir path.now) answer self.new.tree self.new.seals self.new.unsealed) }
-        ensures blocked { (n : Now) (size actor : ℕ) → Stands n self.old.tree self.old.seals self.old.unsealed → IsErrOf result StepFault.NotBuilt → is_blocked size n actor (make_command is_dir path.now) ≡ true }
+        ensures ok { (n : Now) (size actor : ℕ) → Stands n self.old.tree self.old.seals self.old.unsealed → IfOk result (λ answer. Answered self.old.inodes size n actor (make_command is_dir path.now) answer self.new.tree self.new.seals self.new.unsealed) }
+        ensures blocked { (n : Now) (size actor : ℕ) → Stands n self.old.tree self.old.seals self.old.unsealed → IsErrOf result StepFault.NotBuilt → is_blocked self.old.inodes size n actor (make_command is_dir path.now) ≡ true }
         ensures printed { IfOk result (λ answer. IsTrue (is_printed answer)) }
         ensures disk { self.new.disk ≡ self.old.disk }
+        ensures inodes { self.new.inodes ≡ self.old.inodes }
         ensures number { self.new.number ≡ self.old.number }
         ensures seals { self.new.seals ≡ self.old.seals }
         ensures no_device { IsErrOf result StepFault.Device → ⊥ }
     {
-        let update = match make_update(&self.tree, path, is_dir) {
+        let update = match make_update(&self.tree, self.inodes, path, is_dir) {
             Ok(update) => update,
             Err(cause) => return Ok(Reply::Refused(cause)),
         };
@@ -151,13 +152,14 @@ impl<D: Disk> Session<D> {
     fn sync(&mut self, alloc: Global) -> Result<Reply, StepFault>
         requires made { IsMade self.old.tree }
         requires room { self.old.seals < 2 ^ 64 - 1 }
-        ensures ok { (n : Now) (actor : ℕ) → Stands n self.old.tree self.old.seals self.old.unsealed → IfOk result (λ answer. Answered (D.known self.old.disk) n actor command.StreamSync answer self.new.tree self.new.seals self.new.unsealed) }
-        ensures blocked { (n : Now) (actor : ℕ) → Stands n self.old.tree self.old.seals self.old.unsealed → IsErrOf result StepFault.NotBuilt → is_blocked (D.known self.old.disk) n actor command.StreamSync ≡ true }
+        ensures ok { (n : Now) (actor : ℕ) → Stands n self.old.tree self.old.seals self.old.unsealed → IfOk result (λ answer. Answered self.old.inodes (D.known self.old.disk) n actor command.StreamSync answer self.new.tree self.new.seals self.new.unsealed) }
+        ensures blocked { (n : Now) (actor : ℕ) → Stands n self.old.tree self.old.seals self.old.unsealed → IsErrOf result StepFault.NotBuilt → is_blocked self.old.inodes (D.known self.old.disk) n actor command.StreamSync ≡ true }
         ensures printed { IfOk result (λ answer. IsTrue (is_printed answer)) }
         ensures quiet { OnOk result (self.new.seals ≡ self.old.seals → IsQuiet self.old.number self.new.number self.old.disk self.new.disk) }
         ensures sealed { OnOk result (self.new.seals ≢ self.old.seals → IsSealed self.old.number self.new.number self.old.seals self.new.seals self.new.unsealed) }
         ensures shows { D.tells → D.in_doubt self.old.disk ≡ false → OnOk result (self.new.seals ≢ self.old.seals → Shows (D.in_doubt self.new.disk) (D.seen self.new.disk) self.new.number (picture self.new.tree)) }
         ensures known { D.known self.new.disk ≡ D.known self.old.disk }
+        ensures inodes { self.new.inodes ≡ self.old.inodes }
         ensures later { D.faults self.old.disk ≤ D.faults self.new.disk }
         ensures device { IsErrOf result StepFault.Device → Rose (D.faults self.old.disk) (D.faults self.new.disk) }
     {
@@ -186,13 +188,14 @@ impl<D: Disk> Session<D> {
     pub fn step(&mut self, alloc: Global, command: &Command) -> Result<Reply, StepFault>
         requires made { IsMade self.old.tree }
         requires room { self.old.seals < 2 ^ 64 - 1 }
-        ensures ok { (n : Now) (actor : ℕ) → Stands n self.old.tree self.old.seals self.old.unsealed → IfOk result (λ answer. Answered (D.known self.old.disk) n actor command.now answer self.new.tree self.new.seals self.new.unsealed) }
-        ensures blocked { (n : Now) (actor : ℕ) → Stands n self.old.tree self.old.seals self.old.unsealed → IsErrOf result StepFault.NotBuilt → is_blocked (D.known self.old.disk) n actor command.now ≡ true }
+        ensures ok { (n : Now) (actor : ℕ) → Stands n self.old.tree self.old.seals self.old.unsealed → IfOk result (λ answer. Answered self.old.inodes (D.known self.old.disk) n actor command.now answer self.new.tree self.new.seals self.new.unsealed) }
+        ensures blocked { (n : Now) (actor : ℕ) → Stands n self.old.tree self.old.seals self.old.unsealed → IsErrOf result StepFault.NotBuilt → is_blocked self.old.inodes (D.known self.old.disk) n actor command.now ≡ true }
         ensures printed { IfOk result (λ answer. IsTrue (is_printed answer)) }
         ensures quiet { OnOk result (self.new.seals ≡ self.old.seals → IsQuiet self.old.number self.new.number self.old.disk self.new.disk) }
         ensures sealed { OnOk result (self.new.seals ≢ self.old.seals → IsSealed self.old.number self.new.number self.old.seals self.new.seals self.new.unsealed) }
         ensures shows { D.tells → D.in_doubt self.old.disk ≡ false → OnOk result (self.new.seals ≢ self.old.seals → Shows (D.in_doubt self.new.disk) (D.seen self.new.disk) self.new.number (picture self.new.tree)) }
         ensures known { D.known self.new.disk ≡ D.known self.old.disk }
+        ensures inodes { self.new.inodes ≡ self.old.inodes }
         ensures later { D.faults self.old.disk ≤ D.faults self.new.disk }
         ensures device { IsErrOf result StepFault.Device → Rose (D.faults self.old.disk) (D.faults self.new.disk) }
     {
@@ -211,6 +214,7 @@ impl<D: Disk> Session<D> {
         let Session {
             disk,
             tree: _,
+            inodes: _,
             number: _,
             seals: _,
             unsealed: _,

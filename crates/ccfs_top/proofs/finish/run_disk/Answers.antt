@@ -1,7 +1,7 @@
 use Rattle.std.proofs.Common.{◌≡◌, ℕ, inl, inr, ap, sym, ◌∙◌, subst, refl, length}
 use Rattle.plain_image.specs.Opened.{opened}
 use Rattle.history_model.specs.Histories.{start}
-use Rattle.ccfs_top.specs.Runs.{Expected, over_found, ran}
+use Rattle.ccfs_top.specs.Runs.{Expected, plain_inodes, over_found, ran}
 use Rattle.ccfs_top.specs.Stops.{Decides, Grew}
 use Rattle.ccfs_top.proofs.Finishing.{fault_decides, grew_none}
 use Rattle.ccfs_top.proofs.finish.run_disk.Goals as goal
@@ -33,8 +33,9 @@ returns-in-Err-run_session-clause-stopped g c = λ told.
     let n = start s.tree in
     let calls = c.args.calls.now in
     let o = c.in-Ok.ensures.opened told in
-    let same : over_found (length o.0) calls (opened o.0) ≡ ran (g.D.Disk.known s.disk) s.number n calls =
-    ap (over_found (length o.0) calls) o.2 ∙ ap (λ (z : ℕ). ran z s.number n calls) o.3 in (
+    let same : over_found (length o.0) calls (opened o.0) ≡ ran s.inodes (g.D.Disk.known s.disk) s.number n calls =
+    ap (over_found (length o.0) calls) o.2 ∙ ap (λ (z : ℕ). ran plain_inodes z s.number n calls) o.3
+    ∙ ap (λ (z : ℕ). ran z (g.D.Disk.known s.disk) s.number n calls) (sym c.in-Ok.ensures.inodes) in (
       o.0,
       o.1,
       subst (λ (z : Expected). Decides z c.in-Err-run_session.fault) (sym same) (c.in-Err-run_session.ensures.decides told),

@@ -19,4 +19,4 @@ returns-clause-update c = λ n seals unsealed stands.
     let p = found_parent (parent_walk t path) (last_of path) c.in-Ok.found (sym c.in-Ok.ensures) in
     let below : path ≢ [] = λ is. let yes = c.is_root.ensures.root.1 is in absurd (cc (yes, c.if-is_root.false)) in
     let free : is_some (entry t c.in-Ok.found.0 c.in-Ok.found.1) ≡ false = cc (c.entry.ensures, c.is_some.ensures, c.if-is_some.false) in
-    make_next n t seals unsealed c.args.is_dir path c.in-Ok.found.0 c.in-Ok.found.1 c.len-rows.result stands below p.0 p.1 free c.len-rows.ensures.rows (omega arith)
+    make_next c.args.inodes n t seals unsealed c.args.is_dir path c.in-Ok.found.0 c.in-Ok.found.1 c.len-rows.result stands below p.0 p.1 free c.len-rows.ensures.rows (omega arith)
