@@ -23,7 +23,7 @@ volume_area c = drop volume_place c
 abbrev pub master_place : ℕ
 master_place = block_size
 
--- the half whose batches count: half 1 where the master byte is 0xA5, and half 0 where it is any other
+-- the half whose batches count, as the master byte says: 0xA5 names half 1, and every other byte names half 0
 abbrev pub active_half : List ℕ → ℕ
 active_half c = cond (slice_index c master_place == 165) 1 0
 

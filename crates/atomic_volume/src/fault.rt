@@ -25,8 +25,8 @@ pub enum VolumeFault {
         /// The field. It is `Blocks`, too, where no field is wrong by itself and the image has another number of blocks.
         field: SuperField,
     },
-    /// An open batch of the active half breaks the format: the first such. A master byte that names half 1 is told as its
-    /// batch 0 and block 1, since that half isn't used yet.
+    /// A batch that counts can't be read, and those before it can. A master byte that names half 1 is told as its batch 0 and
+    /// block 1, since that half isn't used yet.
     #[error("batch {batch} of half {half} breaks the format, in block {block}")]
     BadJournal {
         /// The half, 0 or 1.

@@ -3,3 +3,7 @@ pub mod Spelling
 pub mod Parsing
 pub mod Written
 pub mod Putting
+pub mod Put
+pub mod OneBit
+pub mod AtPlaces
+pub mod Examples

@@ -6,3 +6,7 @@ pub mod Memory
 pub mod Fits
 pub mod Contents
 pub mod Limits
+pub mod Places
+pub mod Records
+pub mod Rooms
+pub mod Logs

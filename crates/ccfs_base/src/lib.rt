@@ -12,6 +12,8 @@ pub mod limits;
 pub mod memory;
 pub mod naming;
 pub mod paths;
+pub mod places;
+pub mod records;
 pub mod refused;
 pub mod replies;
 
@@ -22,6 +24,7 @@ pub use limits::{FILE_MAX, TXN_LIMIT, blocks};
 pub use memory::{MemSink, MemSource};
 pub use naming::{Name, NameFault};
 pub use paths::{Path, PathFault, PathNames};
+pub use records::{Rec, Recs};
 pub use refused::Returned;
 pub use replies::{Names, Refusal, Reply};
 

@@ -114,3 +114,31 @@ fn a_gap_is_filled_with_zeros_and_a_cut_forgets_the_tail(rt: HostRuntime) -> Res
     assert_eq!(rt; bytes.all(), b"a\0\0Y\0".as_slice());
     Ok(())
 }
+
+#[test]
+fn records_come_back_in_their_order_and_from_a_copy(rt: HostRuntime) -> Result<(), Fail> {
+    let mut recs = Recs::new(rt.alloc());
+    recs.push(Rec::Range {
+        off: 7,
+        bytes: Bytes::of(rt.alloc(), b"ab")?,
+    })?;
+    recs.push(Rec::Add { off: 16, by: 1 })?;
+    recs.push(Rec::Bit {
+        off: 9,
+        bit: 3,
+        on: true,
+    })?;
+    let copy = recs.copy()?;
+    assert_eq!(rt; copy.all().len(), 3);
+    for rec in copy.all() {
+        match rec {
+            Rec::Range { off, bytes } => {
+                assert_eq!(rt; *off, 7);
+                assert_eq!(rt; bytes.all(), b"ab".as_slice());
+            }
+            Rec::Add { off, by } => assert_eq!(rt; (*off, *by), (16, 1)),
+            Rec::Bit { off, bit, on } => assert_eq!(rt; (*off, *bit, *on), (9, 3, true)),
+        }
+    }
+    Ok(())
+}

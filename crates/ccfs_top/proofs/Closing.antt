@@ -1,5 +1,5 @@
--- How the top call ends after a stop.
-use Rattle.std.proofs.Common.{◌≡◌, ◌⊎◌, inl, inr, ℕ, ◌≤◌, Bool, true, false, cond, List, [], ◌++◌, length, take, refl, sym, ap, ◌∙◌, subst, arith, length-append}
+-- How the top call ends after a stop, and after an end.
+use Rattle.std.proofs.Common.{◌≡◌, ◌⊎◌, inl, inr, ℕ, ◌≤◌, Bool, true, false, cond, List, [], ◌++◌, length, take, refl, sym, ap, ◌∙◌, subst, arith, append_assoc, length-append}
 use Rattle.std.proofs.lemmas.List.{append-nil, take_all, nil_from_length}
 use Rattle.std.specs.declared.option.Option.{Option}
 use Rattle.std.specs.declared.option.Option.TheVariants.{None, Some}
@@ -7,77 +7,100 @@ use Rattle.std.specs.declared.result.Result.{Result}
 use Rattle.std.specs.declared.result.Result.TheVariants.{Ok, Err}
 use Rattle.tree_model.specs.declared.rows.Entry.{Entry}
 use Rattle.tree_model.specs.Rows.{Rows}
-use Rattle.plain_image.specs.Opened.{opened}
-use Rattle.history_model.specs.State.{Now}
-use Rattle.history_model.specs.Histories.{start}
 use Rattle.script_text.specs.declared.scripts.Call.{Call}
-use Rattle.script_text.specs.Scripts.{calls_of, is_long}
-use Rattle.script_text.specs.Texts.{usage_line, too_long_line, bad_image_line, not_built_line, memory_fault_line}
+use Rattle.script_text.specs.Scripts.{calls_of, first_unbuilt, is_long}
+use Rattle.script_text.specs.Texts.{usage_line, too_long_line, bad_image_line, bad_line_line, not_built_line, memory_fault_line}
+use Rattle.recovery.specs.Bad.{kind_name}
 use Rattle.ccfs_top.specs.declared.stop.Stop.{Stop}
-use Rattle.ccfs_top.specs.declared.stop.Stop.TheVariants.{Usage, Long, NotBuilt, Source, Sink, Disk, BadImage, NoMemory}
-use Rattle.ccfs_top.specs.Ends.{IsFront, IsSaid, IsFault, HasLine, Ends, EndsWith, joined}
-use Rattle.ccfs_top.specs.Runs.{Expected, plain_inodes, alone, final_history, stopped, ran_until, over_found, over_script, expected}
-use Rattle.ccfs_top.specs.Stops.{status_of, stop_line, IsNotBuilt, Told, Decides, Until, Grew}
+use Rattle.ccfs_top.specs.declared.stop.Stop.TheVariants.{Usage, Long, BadLine, NotBuilt, Source, Sink, Disk, BadImage, NoMemory}
+use Rattle.ccfs_top.specs.Ends.{IsSaid, IsFault, HasLine, Ends, EndsWith, Wrote, joined}
+use Rattle.ccfs_top.specs.Images.{Image, Finding, Holds, Spoilt, Unread}
+use Rattle.ccfs_top.specs.Runs.{Expected, alone, final_history, stopped_over, ran_until, ran, over, over_calls, over_script, expected, printed}
+use Rattle.ccfs_top.specs.Stops.{status_of, stop_line, Told, SaidOf, Decides, Until, Grew}
 
 -- ---- a stop by the script
 
--- the source failed, the script is too long, there was no memory, or a line isn't built
+-- the source failed, the script is too long, there was no memory, a line isn't a command, or one isn't built
 abbrev pub OfScript : Stop → Type 0
-OfScript s = (s ≡ Source) ⊎ (s ≡ Long) ⊎ (s ≡ NoMemory) ⊎ ((line : ℕ) × (s ≡ NotBuilt line))
+OfScript s = (s ≡ Source) ⊎ (s ≡ Long) ⊎ (s ≡ NoMemory) ⊎ ((line : ℕ) × (s ≡ BadLine line)) ⊎ ((line : ℕ) × (s ≡ NotBuilt line))
 
-no_other : (s : Stop) → OfScript s → (s ≡ Source → ⊥) → (s ≡ Long → ⊥) → (s ≡ NoMemory → ⊥) → ((line : ℕ) → s ≡ NotBuilt line → ⊥) → ⊥
-no_other s (inl is) a b c d = a is
-no_other s (inr (inl is)) a b c d = b is
-no_other s (inr (inr (inl is))) a b c d = c is
-no_other s (inr (inr (inr is))) a b c d = d is.0 is.1
+-- what is to come of a script that was refused so
+pub record Refused (e : Expected) (s : Stop) : Type 0 where
+  pub kind : OfScript s
+  pub long : s ≡ Long → e ≡ alone 4 too_long_line
+  pub bad : (line : ℕ) → s ≡ BadLine line → e ≡ alone 3 (bad_line_line line)
+  pub halt : (line : ℕ) → s ≡ NotBuilt line → e ≡ alone 1 (not_built_line line)
 
-pub script_decides : (e : Expected) (s : Stop) → OfScript s → (s ≡ Long → e ≡ alone 4 too_long_line) → ((line : ℕ) → s ≡ NotBuilt line → e ≡ alone 1 (not_built_line line)) → Decides e s
-script_decides e Usage kind long halt = absurd (no_other Usage kind (λ p. cc p) (λ p. cc p) (λ p. cc p) (λ _ p. cc p))
-script_decides e Long kind long halt = long refl
-script_decides e (NotBuilt line) kind long halt =
-    let is = halt line refl in
+no_other : (s : Stop) → OfScript s → (s ≡ Source → ⊥) → (s ≡ Long → ⊥) → (s ≡ NoMemory → ⊥) → ((line : ℕ) → s ≡ BadLine line → ⊥) → ((line : ℕ) → s ≡ NotBuilt line → ⊥) → ⊥
+no_other s (inl is) a b c d e = a is
+no_other s (inr (inl is)) a b c d e = b is
+no_other s (inr (inr (inl is))) a b c d e = c is
+no_other s (inr (inr (inr (inl is)))) a b c d e = d is.0 is.1
+no_other s (inr (inr (inr (inr is)))) a b c d e = e is.0 is.1
+
+pub script_decides : (e : Expected) (s : Stop) → Refused e s → Decides e s
+script_decides e Usage r = absurd (no_other Usage r.kind (λ p. cc p) (λ p. cc p) (λ p. cc p) (λ _ p. cc p) (λ _ p. cc p))
+script_decides e Long r = r.long refl
+script_decides e (BadLine line) r = r.bad line refl
+script_decides e (NotBuilt line) r =
+    let is = r.halt line refl in
     record { status = ap (λ (z : Expected). z.status) is; last = ap (λ (z : Expected). z.last) is; batches = ap (λ (z : Expected). z.batches) is }
-script_decides e Source kind long halt = tt
-script_decides e Sink kind long halt = tt
-script_decides e Disk kind long halt = tt
-script_decides e BadImage kind long halt = absurd (no_other BadImage kind (λ p. cc p) (λ p. cc p) (λ p. cc p) (λ _ p. cc p))
-script_decides e NoMemory kind long halt = tt
+script_decides e Source r = tt
+script_decides e Sink r = tt
+script_decides e Disk r = tt
+script_decides e (BadImage bad) r = absurd (no_other (BadImage bad) r.kind (λ p. cc p) (λ p. cc p) (λ p. cc p) (λ _ p. cc p) (λ _ p. cc p))
+script_decides e NoMemory r = tt
 
-pub script_grew : (e : Expected) (s : Stop) (text : List ℕ) → OfScript s → ((line : ℕ) → s ≡ NotBuilt line → e ≡ alone 1 (not_built_line line)) → Grew e s text text
-script_grew e Usage text kind halt = absurd (no_other Usage kind (λ p. cc p) (λ p. cc p) (λ p. cc p) (λ _ p. cc p))
-script_grew e Long text kind halt = ([], sym (append-nil text), refl)
-script_grew e (NotBuilt line) text kind halt = ([], sym (append-nil text), sym (ap (λ (z : Expected). joined z.replies) (halt line refl)))
-script_grew e Source text kind halt = ([], sym (append-nil text), refl)
-script_grew e Sink text kind halt = absurd (no_other Sink kind (λ p. cc p) (λ p. cc p) (λ p. cc p) (λ _ p. cc p))
-script_grew e Disk text kind halt = absurd (no_other Disk kind (λ p. cc p) (λ p. cc p) (λ p. cc p) (λ _ p. cc p))
-script_grew e BadImage text kind halt = absurd (no_other BadImage kind (λ p. cc p) (λ p. cc p) (λ p. cc p) (λ _ p. cc p))
-script_grew e NoMemory text kind halt = ([], sym (append-nil text), (0, omega arith, refl))
+pub script_grew : (e : Expected) (s : Stop) (text : List ℕ) → Refused e s → Grew e s 0 text text
+script_grew e Usage text r = absurd (no_other Usage r.kind (λ p. cc p) (λ p. cc p) (λ p. cc p) (λ _ p. cc p) (λ _ p. cc p))
+script_grew e Long text r = ([], sym (append-nil text), refl)
+script_grew e (BadLine line) text r = ([], sym (append-nil text), refl)
+script_grew e (NotBuilt line) text r =
+    let is = r.halt line refl in
+    ([], sym (append-nil text), (sym (ap (λ (z : Expected). length z.replies) is), sym (ap (λ (z : Expected). joined z.replies) is)))
+script_grew e Source text r = ([], sym (append-nil text), (refl, refl))
+script_grew e Sink text r = absurd (no_other Sink r.kind (λ p. cc p) (λ p. cc p) (λ p. cc p) (λ _ p. cc p) (λ _ p. cc p))
+script_grew e Disk text r = absurd (no_other Disk r.kind (λ p. cc p) (λ p. cc p) (λ p. cc p) (λ _ p. cc p) (λ _ p. cc p))
+script_grew e (BadImage bad) text r = absurd (no_other (BadImage bad) r.kind (λ p. cc p) (λ p. cc p) (λ p. cc p) (λ _ p. cc p) (λ _ p. cc p))
+script_grew e NoMemory text r = ([], sym (append-nil text), refl)
 
 -- ---- what is to come
 
 -- a run that doesn't come to its end prints no number
-abbrev IsPlain : Expected → Type 0
+abbrev pub IsPlain : Expected → Type 0
 IsPlain e = (e.status ≡ 0) ⊎ (e.batches ≡ 0)
 
-plain_ran : (inodes k : ℕ) (n : Now) (h : List Entry) (o : Option ℕ) → IsPlain (ran_until inodes k n h o)
-plain_ran inodes k n h None = inl refl
-plain_ran inodes k n h (Some line) = inr refl
+plain_until : (image : Image) (h : List Entry) (o : Option ℕ) → IsPlain (ran_until image h o)
+plain_until image h None = inl refl
+plain_until image h (Some line) = inr refl
 
-plain_found : (size : ℕ) (calls : List Call) (o : Option (ℕ × Rows)) → IsPlain (over_found size calls o)
-plain_found size calls None = inr refl
-plain_found size calls (Some o) = plain_ran plain_inodes o.0 (start o.1) (final_history plain_inodes size (start o.1) calls) (stopped plain_inodes size (start o.1) calls)
+plain_over : {A : Type 0} (good : A → Expected) (seen : Finding A) → ((a : A) → IsPlain (good a)) → IsPlain (over good seen)
+plain_over good (Holds a) each = each a
+plain_over good (Spoilt kind block) each = inr refl
+plain_over good Unread each = inr refl
 
-plain_script : (found : List ℕ) (r : Result (List Call) ℕ) → IsPlain (over_script found r)
-plain_script found (Err line) = inr refl
-plain_script found (Ok calls) = plain_found (length found) calls (opened found)
+plain_calls : (seen : Finding Image) (calls : List Call) (o : Option ℕ) → IsPlain (over_calls seen calls o)
+plain_calls seen calls (Some line) = inr refl
+plain_calls seen calls None = plain_over (λ (image : Image). ran image calls) seen (λ image. plain_until image (final_history image calls) (stopped_over image calls))
+
+plain_script : (seen : Finding Image) (r : Result (List Call) ℕ) → IsPlain (over_script seen r)
+plain_script seen (Err line) = inr refl
+plain_script seen (Ok calls) = plain_calls seen calls (first_unbuilt calls)
 
 plain_cond : (b : Bool) (x y : Expected) → IsPlain x → IsPlain y → IsPlain (cond b x y)
 plain_cond true x y p q = p
 plain_cond false x y p q = q
 
-plain_expected : (b : Bool) (script found : List ℕ) → IsPlain (expected b script found)
-plain_expected false script found = inr refl
-plain_expected true script found = plain_cond (is_long script) (alone 4 too_long_line) (over_script found (calls_of script)) (inr refl) (plain_script found (calls_of script))
+pub plain_expected : (script : List ℕ) (seen : Finding Image) → IsPlain (expected script seen)
+plain_expected script seen = plain_cond (is_long script) (alone 4 too_long_line) (over_script seen (calls_of script)) (inr refl) (plain_script seen (calls_of script))
+
+pub plain_printed : (seen : Finding (ℕ × Rows)) → IsPlain (over printed seen)
+plain_printed seen = plain_over printed seen (λ p. inl refl)
+
+-- a run of calls that are built, over a good image
+pub expected_ran : (script : List ℕ) (image : Image) (calls : List Call) → is_long script ≡ false → calls_of script ≡ Ok calls → first_unbuilt calls ≡ None → expected script (Holds image) ≡ ran image calls
+expected_ran script image calls short are built =
+    ap (λ (b : Bool). cond b (alone 4 too_long_line) (over_script (Holds image) (calls_of script))) short ∙ ap (over_script (Holds image)) are ∙ ap (over_calls (Holds image) calls) built
 
 -- ---- the status
 
@@ -87,33 +110,39 @@ not_zero s code (inl is) zero = below s code is zero
     below : (s : Stop) (code : ℕ) → code ≡ status_of s → code ≡ 0 → ⊥
     below Usage code is zero = omega (arith, is, zero)
     below Long code is zero = omega (arith, is, zero)
+    below (BadLine line) code is zero = omega (arith, is, zero)
     below (NotBuilt line) code is zero = omega (arith, is, zero)
     below Source code is zero = omega (arith, is, zero)
     below Sink code is zero = omega (arith, is, zero)
     below Disk code is zero = omega (arith, is, zero)
-    below BadImage code is zero = omega (arith, is, zero)
+    below (BadImage bad) code is zero = omega (arith, is, zero)
     below NoMemory code is zero = omega (arith, is, zero)
 not_zero s code (inr is) zero = let nine = is.0 in omega (arith, nine, zero)
 
 status_told : (e : Expected) (s : Stop) (code : ℕ) → Decides e s → Told s code → (code ≡ e.status) ⊎ IsFault code
 status_told e Usage code d (inl is) = inl (is ∙ sym (ap (λ (z : Expected). z.status) d))
 status_told e Long code d (inl is) = inl (is ∙ sym (ap (λ (z : Expected). z.status) d))
+status_told e (BadLine line) code d (inl is) = inl (is ∙ sym (ap (λ (z : Expected). z.status) d))
 status_told e (NotBuilt line) code d (inl is) = inl (is ∙ sym d.status)
 status_told e Source code d (inl is) = inr (inl is)
 status_told e Sink code d (inl is) = inr (inr (inl is))
 status_told e Disk code d (inl is) = inr (inr (inr (inl is)))
-status_told e BadImage code d (inl is) = inl (is ∙ sym (ap (λ (z : Expected). z.status) d))
+status_told e (BadImage bad) code d (inl is) = inl (is ∙ sym (ap (λ (z : Expected). z.status) d))
 status_told e NoMemory code d (inl is) = inr (inr (inr (inr is)))
 status_told e s code d (inr is) = inr (inr (inr (inr is.0)))
 
-pub ends_with : (b : Bool) (script found : List ℕ) (s : Stop) (code : ℕ) → Decides (expected b script found) s → Told s code → EndsWith (expected b script found) code 0
-ends_with b script found s code d told = record {
-  status = status_told (expected b script found) s code d told;
-  batches = λ same. elim (plain_expected b script found) [
+pub ends_with : (e : Expected) (s : Stop) (lines code number : ℕ) → IsPlain e → Decides e s → Told s code → lines ≤ length e.replies → number ≡ 0 → EndsWith e lines code number
+ends_with e s lines code number plain d told few no_number = record {
+  status = status_told e s code d told;
+  batches = λ same. elim plain [
     | inl zero ↦ absurd (not_zero s code told (same ∙ zero))
-    | inr none ↦ sym none
+    | inr none ↦ no_number ∙ sym none
   ];
+  few = few;
 }
+
+pub ends_done : (e : Expected) (number : ℕ) → e.status ≡ 0 → number ≡ e.batches → EndsWith e (length e.replies) 0 number
+ends_done e number zero is = record { status = inl (sym zero); batches = λ _. is; few = omega arith }
 
 -- ---- what was written
 
@@ -121,20 +150,28 @@ said_for : (f g : Type 0) (line said : List ℕ) → (f → g) → IsSaid f line
 said_for f g line said map (inl is) = inl is
 said_for f g line said map (inr is) = inr (map is.0, is.1)
 
-as_expected : (e : Expected) (failed : Type 0) (code : ℕ) (w said line : List ℕ) → code ≡ e.status → (code ≡ 0 → ⊥) → w ≡ joined e.replies → e.last ≡ line → IsSaid failed line said → Ends e failed code (w ++ said)
-as_expected e failed code w said line status not_done before last whole = inl (record {
+as_expected : (e : Expected) (failed : Type 0) (lines code : ℕ) (w said line : List ℕ) → code ≡ e.status → (code ≡ 0 → ⊥) → lines ≡ length e.replies → w ≡ joined e.replies → e.last ≡ line → IsSaid failed line said
+    → Ends e failed lines code (w ++ said)
+as_expected e failed lines code w said line status not_done all before last whole = inl (record {
   status = status;
+  all = all;
   said = said;
   text = ap (λ (z : List ℕ). z ++ said) before;
   line = subst (λ (z : List ℕ). IsSaid failed z said) (sym last) whole;
   whole = λ zero. absurd (not_done zero);
 })
 
-by_fault : (e : Expected) (failed : Type 0) (code n : ℕ) (w said line : List ℕ) → n ≤ length e.replies → w ≡ joined (take n e.replies) → HasLine code line → IsSaid failed line said → (code ≡ 5 → n ≡ 0)
-    → Ends e failed code (w ++ said)
-by_fault e failed code n w said line few before has whole first = inr (inr (record {
-  lines = n;
-  few = few;
+-- where there are no reply lines
+as_alone : (e : Expected) (failed : Type 0) (lines code status : ℕ) (w said line : List ℕ) → e ≡ alone status line → code ≡ status → (code ≡ 0 → ⊥) → lines ≤ length e.replies → w ≡ [] → IsSaid failed line said
+    → Ends e failed lines code (w ++ said)
+as_alone e failed lines code status w said line is told not_done few before whole =
+    let none = ap (λ (z : Expected). length z.replies) is in
+    as_expected e failed lines code w said line (told ∙ sym (ap (λ (z : Expected). z.status) is)) not_done (omega (arith, none, few)) (before ∙ sym (ap (λ (z : Expected). joined z.replies) is))
+    (ap (λ (z : Expected). z.last) is) whole
+
+by_fault : (e : Expected) (failed : Type 0) (lines code : ℕ) (w said line : List ℕ) → w ≡ joined (take lines e.replies) → HasLine code line → IsSaid failed line said → (code ≡ 5 → lines ≡ 0)
+    → Ends e failed lines code (w ++ said)
+by_fault e failed lines code w said line before has whole first = inr (inr (record {
   line = line;
   fault = has;
   said = said;
@@ -143,6 +180,9 @@ by_fault e failed code n w said line few before has whole first = inr (inr (reco
   script_first = first;
 }))
 
+none_taken : (e : Expected) (lines : ℕ) (w : List ℕ) → lines ≡ 0 → w ≡ [] → w ≡ joined (take lines e.replies)
+none_taken e lines w none before = before ∙ ap (λ (n : ℕ). joined (take n e.replies)) (sym none)
+
 none_said : (f : Type 0) (said : List ℕ) → IsSaid f [] said → said ≡ []
 none_said f said (inl is) = is
 none_said f said (inr is) =
@@ -150,44 +190,72 @@ none_said f said (inr is) =
     let both = length-append said is.1.0 in
     nil_from_length said (omega (arith, long, both))
 
--- what was said of a stop with this status
-abbrev pub SaidOf : Type 0 → Stop → ℕ → List ℕ → Type 0
-SaidOf f s code said = ((code ≡ status_of s) × IsSaid f (stop_line s) said) ⊎ ((code ≡ 9) × IsNotBuilt s × IsSaid f memory_fault_line said)
+pub ends_stop : (e : Expected) (s : Stop) (lines code : ℕ) (f g : Type 0) (w said : List ℕ) → Decides e s → Until e s lines w → lines ≤ length e.replies → (f → g) → (s ≡ Sink → g) → SaidOf f s code said
+    → Ends e g lines code (w ++ said)
+ends_stop e Usage lines code f g w said d u few map rose (inl is) =
+    let status = is.0 in
+    as_alone e g lines code 2 w said usage_line d is.0 (λ zero. omega (arith, zero, status)) few u (said_for f g usage_line said map is.1)
+ends_stop e Long lines code f g w said d u few map rose (inl is) =
+    let status = is.0 in
+    as_alone e g lines code 4 w said too_long_line d is.0 (λ zero. omega (arith, zero, status)) few u (said_for f g too_long_line said map is.1)
+ends_stop e (BadLine line) lines code f g w said d u few map rose (inl is) =
+    let status = is.0 in
+    as_alone e g lines code 3 w said (bad_line_line line) d is.0 (λ zero. omega (arith, zero, status)) few u (said_for f g (bad_line_line line) said map is.1)
+ends_stop e (BadLine line) lines code f g w said d u few map rose (inr is) =
+    let status = is.0 in
+    let none = ap (λ (z : Expected). length z.replies) d in
+    by_fault e g lines code w said memory_fault_line (none_taken e lines w (omega (arith, none, few)) u) (inr (inr (is.0, refl))) (said_for f g memory_fault_line said map is.2) (λ five. omega (arith, five, status))
+ends_stop e (NotBuilt line) lines code f g w said d u few map rose (inl is) =
+    let status = is.0 in
+    as_expected e g lines code w said (not_built_line line) (is.0 ∙ sym d.status) (λ zero. omega (arith, zero, status)) u.0 u.1 d.last (said_for f g (not_built_line line) said map is.1)
+ends_stop e (NotBuilt line) lines code f g w said d u few map rose (inr is) =
+    let status = is.0 in
+    let all = u.0 in
+    by_fault e g lines code w said memory_fault_line (u.1 ∙ ap joined (sym (take_all lines e.replies (omega (arith, all))))) (inr (inr (is.0, refl))) (said_for f g memory_fault_line said map is.2)
+    (λ five. omega (arith, five, status))
+ends_stop e Source lines code f g w said d u few map rose (inl is) =
+    by_fault e g lines code w said (stop_line Source) (none_taken e lines w u.0 u.1) (inl (is.0, refl)) (said_for f g (stop_line Source) said map is.1) (λ _. u.0)
+ends_stop e Sink lines code f g w said d u few map rose (inl is) =
+    inr (inl (record {
+      status = is.0;
+      failed = rose refl;
+      said = u.said;
+      text = ap (λ (z : List ℕ). w ++ z) (none_said f said is.1) ∙ append-nil w ∙ u.text;
+      part = u.part;
+    }))
+ends_stop e Disk lines code f g w said d u few map rose (inl is) =
+    let status = is.0 in
+    by_fault e g lines code w said (stop_line Disk) u (inr (inl (is.0, refl))) (said_for f g (stop_line Disk) said map is.1) (λ five. omega (arith, five, status))
+ends_stop e (BadImage bad) lines code f g w said d u few map rose (inl is) =
+    let status = is.0 in
+    let line = bad_image_line (kind_name bad.kind) bad.block in
+    as_alone e g lines code 8 w said line d is.0 (λ zero. omega (arith, zero, status)) few u (said_for f g line said map is.1)
+ends_stop e (BadImage bad) lines code f g w said d u few map rose (inr is) =
+    let status = is.0 in
+    let none = ap (λ (z : Expected). length z.replies) d in
+    by_fault e g lines code w said memory_fault_line (none_taken e lines w (omega (arith, none, few)) u) (inr (inr (is.0, refl))) (said_for f g memory_fault_line said map is.2) (λ five. omega (arith, five, status))
+ends_stop e NoMemory lines code f g w said d u few map rose (inl is) =
+    let status = is.0 in
+    by_fault e g lines code w said (stop_line NoMemory) u (inr (inr (is.0, refl))) (said_for f g (stop_line NoMemory) said map is.1) (λ five. omega (arith, five, status))
+ends_stop e Usage lines code f g w said d u few map rose (inr is) = absurd is.1
+ends_stop e Long lines code f g w said d u few map rose (inr is) = absurd is.1
+ends_stop e Source lines code f g w said d u few map rose (inr is) = absurd is.1
+ends_stop e Sink lines code f g w said d u few map rose (inr is) = absurd is.1
+ends_stop e Disk lines code f g w said d u few map rose (inr is) = absurd is.1
+ends_stop e NoMemory lines code f g w said d u few map rose (inr is) = absurd is.1
 
-pub ends_stop : (e : Expected) (s : Stop) (code : ℕ) (f g : Type 0) (w said : List ℕ) → Decides e s → Until e s w → (f → g) → (s ≡ Sink → g) → SaidOf f s code said → Ends e g code (w ++ said)
-ends_stop e Usage code f g w said d u map rose (inl is) =
-    let status = is.0 in
-    as_expected e g code w said usage_line (is.0 ∙ sym (ap (λ (z : Expected). z.status) d)) (λ zero. omega (arith, zero, status)) (u ∙ sym (ap (λ (z : Expected). joined z.replies) d)) (ap (λ (z : Expected). z.last) d)
-    (said_for f g usage_line said map is.1)
-ends_stop e Long code f g w said d u map rose (inl is) =
-    let status = is.0 in
-    as_expected e g code w said too_long_line (is.0 ∙ sym (ap (λ (z : Expected). z.status) d)) (λ zero. omega (arith, zero, status)) (u ∙ sym (ap (λ (z : Expected). joined z.replies) d)) (ap (λ (z : Expected). z.last) d)
-    (said_for f g too_long_line said map is.1)
-ends_stop e (NotBuilt line) code f g w said d u map rose (inl is) =
-    let status = is.0 in
-    as_expected e g code w said (not_built_line line) (is.0 ∙ sym d.status) (λ zero. omega (arith, zero, status)) u d.last (said_for f g (not_built_line line) said map is.1)
-ends_stop e (NotBuilt line) code f g w said d u map rose (inr is) =
-    let status = is.0 in
-    by_fault e g code (length e.replies) w said memory_fault_line (omega arith) (u ∙ ap joined (sym (take_all (length e.replies) e.replies (omega arith)))) (inr (inr (is.0, refl)))
-    (said_for f g memory_fault_line said map is.2) (λ five. omega (arith, five, status))
-ends_stop e Source code f g w said d u map rose (inl is) =
-    by_fault e g code 0 w said (stop_line Source) (omega arith) u (inl (is.0, refl)) (said_for f g (stop_line Source) said map is.1) (λ _. refl)
-ends_stop e Sink code f g w said d u map rose (inl is) =
-    inr (inl (record { status = is.0; failed = rose refl; text = subst (λ (z : List ℕ). IsFront z (joined e.replies ++ e.last)) (sym (ap (λ (z : List ℕ). w ++ z) (none_said f said is.1) ∙ append-nil w)) u }))
-ends_stop e Disk code f g w said d u map rose (inl is) =
-    let status = is.0 in
-    by_fault e g code u.0 w said (stop_line Disk) u.1 u.2 (inr (inl (is.0, refl))) (said_for f g (stop_line Disk) said map is.1) (λ five. omega (arith, five, status))
-ends_stop e BadImage code f g w said d u map rose (inl is) =
-    let status = is.0 in
-    as_expected e g code w said bad_image_line (is.0 ∙ sym (ap (λ (z : Expected). z.status) d)) (λ zero. omega (arith, zero, status)) (u ∙ sym (ap (λ (z : Expected). joined z.replies) d)) (ap (λ (z : Expected). z.last) d)
-    (said_for f g bad_image_line said map is.1)
-ends_stop e NoMemory code f g w said d u map rose (inl is) =
-    let status = is.0 in
-    by_fault e g code u.0 w said (stop_line NoMemory) u.1 u.2 (inr (inr (is.0, refl))) (said_for f g (stop_line NoMemory) said map is.1) (λ five. omega (arith, five, status))
-ends_stop e Usage code f g w said d u map rose (inr is) = absurd is.1
-ends_stop e Long code f g w said d u map rose (inr is) = absurd is.1
-ends_stop e Source code f g w said d u map rose (inr is) = absurd is.1
-ends_stop e Sink code f g w said d u map rose (inr is) = absurd is.1
-ends_stop e Disk code f g w said d u map rose (inr is) = absurd is.1
-ends_stop e BadImage code f g w said d u map rose (inr is) = absurd is.1
-ends_stop e NoMemory code f g w said d u map rose (inr is) = absurd is.1
+-- the whole text, where the stop was said behind what was written until then
+pub wrote_stop : (e : Expected) (s : Stop) (lines code : ℕ) (f g : Type 0) (old mid new : List ℕ) → Decides e s → Grew e s lines old mid → lines ≤ length e.replies → (f → g) → (s ≡ Sink → g)
+    → ((said : List ℕ) × (new ≡ mid ++ said) × SaidOf f s code said) → Wrote e g lines code old new
+wrote_stop e s lines code f g old mid new d grew few map rose said = (
+  grew.0 ++ said.0,
+  said.1 ∙ ap (λ (z : List ℕ). z ++ said.0) grew.1 ∙ append_assoc old grew.0 said.0,
+  ends_stop e s lines code f g grew.0 said.0 d grew.2 few map rose said.2,
+)
+
+pub wrote_done : (e : Expected) (g : Type 0) (old new : List ℕ) → e.status ≡ 0 → new ≡ old ++ (joined e.replies ++ e.last) → Wrote e g (length e.replies) 0 old new
+wrote_done e g old new zero text = (
+  joined e.replies ++ e.last,
+  text,
+  inl (record { status = sym zero; all = refl; said = e.last; text = refl; line = inl refl; whole = λ _. refl }),
+)

@@ -3,14 +3,14 @@ use Rattle.std.proofs.Common.{◌≡◌, ◌≢◌, inl, inr, ℕ, zero, suc, �
 use Rattle.std.specs.Prelude.{◌||◌, length, take, drop, slice_index, slice_get, nat_le}
 use Rattle.std.specs.declared.option.Option.{Option}
 use Rattle.std.specs.declared.option.Option.TheVariants.{None, Some}
-use Rattle.std.specs.List.{AllByRecursion, All, flat_map, list_all}
+use Rattle.std.specs.List.{AllByRecursion, All, flat_map}
 use Rattle.std.specs.Ordering.{nat_cmp, eq_by_cmp}
 use Rattle.std.specs.Cmp.{nat_cmp_total, unsigned_tied}
 use Rattle.std.specs.FinMap.{get, insert, remove, empty, len, get-empty, get-remove, len-empty, same_map, nat_cmp-IsAntisymmetric}
-use Rattle.std.proofs.lemmas.Bool.{or_left, or_cases, and_parts, and_from, eqb-true, cases_eq, cases_lt}
+use Rattle.std.proofs.lemmas.Bool.{or_left, or_cases, and_parts, eqb-true, cases_eq, cases_lt}
 use Rattle.std.proofs.lemmas.Slice.Eq.{bytes_eq-Decides}
 use Rattle.std.proofs.lemmas.List.{get_or_past}
-use Rattle.std.proofs.lemmas.List.Elements.{All-from_recursion, recursion_from_All, All-get_or}
+use Rattle.std.proofs.lemmas.List.Elements.{All-from_recursion, All-get_or}
 use Rattle.tree_model.specs.declared.rows.Body.{Body}
 use Rattle.tree_model.specs.declared.rows.Body.TheVariants as body
 use Rattle.tree_model.specs.declared.rows.Row.{Row}
@@ -24,8 +24,6 @@ use Rattle.tree_model.specs.Picture.{head, items, picture}
 use Rattle.tree_model.specs.Updates.{recounted as recounted_body, on_body, store, apply}
 use Rattle.tree_model.specs.Tests.{applies}
 use Rattle.ccfs_base.specs.Names.{is_name}
-use Rattle.script_text.specs.Texts.{has_data_text}
-use Rattle.script_text.specs.Trees.{is_item_printed}
 use Rattle.plain_image.specs.Plain.{plain_bytes, kind_at, may_be_named, named_at, item_at, put_before, item_then, items_at, entries_after, with_entries, counted, root_alone, counted_front, picture_at, numbered, plain_of, IsBare, AreBare, AreWritten, AreNamed}
 use Rattle.plain_image.specs.Opened.{shows_dir, dir_on, row_made, if_made, rows_made, recounted, all_recounted, if_recounted, tree_spelled, same_kind, same_item, same_items, tree_of, tree_read, opened}
 use Rattle.plain_image.proofs.Kids.{Each, StandsIn, kids_stand}
@@ -384,17 +382,3 @@ opened_made contents o e =
     spelled_made s.spelled (rows_made (alone 0) 1 (0 ∷ []) (drop 1 s.spelled)) o.1
     (λ m is. all_made (drop 1 s.spelled) (alone 0) 1 (0 ∷ []) m alone_made (sym alone_len) read is)
     s.tree
-
--- ---- what has a text
-
-bare_shown : (items : List Item) → AllByRecursion (λ (i : Item). IsBare i.kind) items → list_all (λ (item : Item). is_item_printed item.kind) items ≡ true
-bare_shown [] h = refl
-bare_shown (i ∷ is) h = and_from _ _ (one i.kind h.0) (bare_shown is h.1)
-  where
-    one : (k : ItemKind) → IsBare k → is_item_printed k ≡ true
-    one (Dir entries changes) is = refl
-    one (File bytes) is = ap has_data_text is
-
--- a picture without bytes has a text
-pub bare_printed : (items : List Item) → AreBare items → IsTrue (list_all (λ item. is_item_printed item.kind) items)
-bare_printed items bare = bare_shown items (recursion_from_All (λ (i : Item). IsBare i.kind) items bare)

@@ -1,7 +1,6 @@
 -- What each call leaves of what the history left before it.
-use Rattle.std.proofs.Common.{◌≡◌, ◌≢◌, ℕ, ◌+◌, ◌-◌, ◌≤◌, ◌<◌, Bool, true, false, cond, ltb, ◌&&◌, IsTrue, List, [], ◌∷◌, length, refl, sym, ap, ◌∙◌, subst, arith}
-use Rattle.std.specs.Prelude.{is_some, is_none}
-use Rattle.std.specs.declared.option.Option.{Option}
+use Rattle.std.proofs.Common.{◌≡◌, ◌≢◌, ℕ, ◌+◌, ◌-◌, ◌≤◌, ◌<◌, Bool, true, false, cond, ◌&&◌, IsTrue, List, [], ◌∷◌, length, refl, sym, ap, ◌∙◌, subst, arith}
+use Rattle.std.specs.Prelude.{is_some, is_none, not}
 use Rattle.std.specs.declared.option.Option.TheVariants.{None, Some}
 use Rattle.std.specs.declared.result.Result.{Result}
 use Rattle.std.specs.declared.result.Result.TheVariants.{Ok, Err}
@@ -18,23 +17,19 @@ use Rattle.std.specs.List.{list_all}
 use Rattle.tree_model.specs.declared.rows.Update.{Update}
 use Rattle.tree_model.specs.declared.rows.Update.TheVariants.{Make, Write, Resize, Remove, Move, Release}
 use Rattle.tree_model.specs.declared.rows.Entry.{Entry}
-use Rattle.tree_model.specs.declared.picturing.Item.{Item}
 use Rattle.tree_model.specs.Rows.{Rows, is_dir_at}
 use Rattle.tree_model.specs.Entries.{entry}
 use Rattle.tree_model.specs.Updates.{apply}
 use Rattle.tree_model.specs.Tests.{applies}
 use Rattle.tree_model.specs.Walk.{from_there, only_dir, walk, front_of, last_of, parent_walk}
-use Rattle.tree_model.specs.Picture.{picture}
 use Rattle.tree_cuts.specs.Calls.{Charged, charge, Accepted, SyncStream, unsealed_rows, call_steps}
 use Rattle.history_model.specs.State.{Now, stream_in}
 use Rattle.history_model.specs.Answers.{Answer, make, from_row, refused, does, no_inode, is_root, closes}
 use Rattle.history_model.specs.Histories.{choices_by, steps_by, entered_by}
-use Rattle.plain_image.specs.Plain.{plain_bytes}
-use Rattle.ccfs_top.specs.Made.{IsMade}
-use Rattle.ccfs_top.specs.Stages.{sizes, is_blocked, forces_a_seal}
+use Rattle.ccfs_top.specs.Stages.{Room, sizes, is_blocked, forces_a_seal, may_commit, with_picture, commits}
 use Rattle.ccfs_top.specs.Sessions.{Stands, make_command, serial_of, name_of, Answered}
 use Rattle.ccfs_top.proofs.Making.{make_len, make_keeps}
-use Rattle.ccfs_top.proofs.Weighing.{OfMakes, open_some, open_none, none_left, others_none, sealing_one, sealing_none, under, over, of_make, not_full, full, in_zero, accepted_alone}
+use Rattle.ccfs_top.proofs.Weighing.{OfMakes, open_some, none_left, others_none, sealing_one, under, over, of_make, not_full, full, in_zero, accepted_alone}
 
 -- ---- the walk to the parent
 
@@ -63,9 +58,6 @@ parent_dir t path d is = dir_there t (walk t (front_of path) 0) d is
 abbrev then_make : ℕ → Now → Bool → List (List ℕ) → ℕ → Answer
 then_make inodes n b path d = cond (is_some (entry n.tree d (last_of path))) (refused Exists) (cond (no_inode (sizes inodes) n 0) (refused NoInode) (does (Make d (last_of path) n.next b)))
 
-pub make_at_root : (inodes : ℕ) (n : Now) (b : Bool) (path : List (List ℕ)) → path ≡ [] → make (sizes inodes) n 0 b path ≡ (Refused Exists, None)
-make_at_root inodes n b path is = ap (make (sizes inodes) n 0 b) is
-
 not_root : (path : List (List ℕ)) → path ≢ [] → is_root path ≡ false
 not_root [] ne = absurd (ne refl)
 not_root (p ∷ ps) ne = refl
@@ -78,11 +70,6 @@ make_lost inodes n b path cause ne lost = below_root inodes n b path ne ∙ ap (
 
 at_parent : (inodes : ℕ) (n : Now) (b : Bool) (path : List (List ℕ)) (d : ℕ) → path ≢ [] → parent_walk n.tree path ≡ Ok d → make (sizes inodes) n 0 b path ≡ then_make inodes n b path d
 at_parent inodes n b path d ne found = below_root inodes n b path ne ∙ ap (λ (z : Result ℕ Refusal). from_row z (then_make inodes n b path)) found
-
-pub make_exists : (inodes : ℕ) (n : Now) (b : Bool) (path : List (List ℕ)) (d : ℕ) → path ≢ [] → parent_walk n.tree path ≡ Ok d → is_some (entry n.tree d (last_of path)) ≡ true
-    → make (sizes inodes) n 0 b path ≡ (Refused Exists, None)
-make_exists inodes n b path d ne found there =
-    at_parent inodes n b path d ne found ∙ ap (λ (z : Bool). cond z (refused Exists) (cond (no_inode (sizes inodes) n 0) (refused NoInode) (does (Make d (last_of path) n.next b)))) there
 
 free_there : (inodes : ℕ) (n : Now) (b : Bool) (path : List (List ℕ)) (d : ℕ) → path ≢ [] → parent_walk n.tree path ≡ Ok d → is_some (entry n.tree d (last_of path)) ≡ false
     → make (sizes inodes) n 0 b path ≡ cond (no_inode (sizes inodes) n 0) (refused NoInode) (does (Make d (last_of path) n.next b))
@@ -113,17 +100,6 @@ make_next inodes n t s w b path d name rows stands ne found last free all few =
     stands.of_makes (omega (arith, lent, all, few))
     ∙ ap (λ (z : List ℕ). (Done, Some (Make d z n.next b))) last ∙ ap (λ (z : ℕ). (Done, Some (Make d name z b))) next
 
-none_of : (o : Option ℕ) → is_some o ≡ false → is_none o ≡ true
-none_of None is = refl
-none_of (Some x) is = absurd (cc is)
-
-pub make_applies : (t : Rows) (path : List (List ℕ)) (name : List ℕ) (d : ℕ) (b : Bool) → IsMade t → parent_walk t path ≡ Ok d → is_some (entry t d name) ≡ false → IsTrue (applies t (Make d name (len t) b))
-make_applies t path name d b made found free =
-    both _ _ _ (parent_dir t path d found) (none_of (entry t d name) free) (ap (λ o. is_none o) (made.dense (len t) (omega arith)))
-  where
-    both : (a b c : Bool) → a ≡ true → b ≡ true → c ≡ true → a && (b && c) ≡ true
-    both a b c p q r = ap (λ (z : Bool). z && (b && c)) p ∙ ap (λ (z : Bool). z && c) q ∙ r
-
 -- ---- what stands once a call is entered
 
 -- the entry of an actor that is answered so
@@ -150,21 +126,23 @@ stands_refused inodes n t s w a c cause none chosen stands =
       made = stands.made;
     }
 
-pub performed_refused : (inodes : ℕ) (n : Now) (t : Rows) (size s w a : ℕ) (b : Bool) (path : List (List ℕ)) (cause : Refusal) → make (sizes inodes) n 0 b path ≡ (Refused cause, None) → Stands n t s w
-    → Answered inodes size n a (make_command b path) (Refused cause) t s w
-performed_refused inodes n t size s w a true path cause is0 stands =
+pub performed_refused : (inodes : ℕ) (n : Now) (t : Rows) (size : ℕ) (room : Room) (s w a : ℕ) (b : Bool) (path : List (List ℕ)) (cause : Refusal) → make (sizes inodes) n 0 b path ≡ (Refused cause, None) → Stands n t s w
+    → Answered inodes size room n a (make_command b path) (Refused cause) t s w room
+performed_refused inodes n t size room s w a true path cause is0 stands =
     let is = in_stream inodes n a true path (Refused cause, None) stands.choices is0 in
     record {
       reply = ap (λ (z : Answer). z.0) (sym is);
       unblocked = ap (λ (z : Answer). forces_a_seal inodes n (stream_in n.choices a) z.1) is;
       stands = subst (λ (z : Answer). Stands (entered_by (sizes inodes) n (entry_with n a (Mkdir path) z)) t s w) (sym is) (stands_refused inodes n t s w a (Mkdir path) cause refl refl stands);
+      room_on = refl;
     }
-performed_refused inodes n t size s w a false path cause is0 stands =
+performed_refused inodes n t size room s w a false path cause is0 stands =
     let is = in_stream inodes n a false path (Refused cause, None) stands.choices is0 in
     record {
       reply = ap (λ (z : Answer). z.0) (sym is);
       unblocked = ap (λ (z : Answer). forces_a_seal inodes n (stream_in n.choices a) z.1) is;
       stands = subst (λ (z : Answer). Stands (entered_by (sizes inodes) n (entry_with n a (Create path) z)) t s w) (sym is) (stands_refused inodes n t s w a (Create path) cause refl refl stands);
+      room_on = refl;
     }
 
 first : (a b : Bool) → IsTrue (a && b) → IsTrue a
@@ -215,33 +193,35 @@ stands_made inodes n t t' s w a c (Remove dir name id stays) chosen stands few r
 stands_made inodes n t t' s w a c (Move dir name to_dir to_name id is_dir replaced stays) chosen stands few room serial spelled fits made = absurd (cc spelled)
 stands_made inodes n t t' s w a c (Release id) chosen stands few room serial spelled fits made = absurd (cc spelled)
 
-pub performed_made : (inodes : ℕ) (n : Now) (t t' : Rows) (size s w a : ℕ) (b : Bool) (path : List (List ℕ)) (u : Update) → make (sizes inodes) n 0 b path ≡ (Done, Some u) → Stands n t s w → w < 512 → len t < inodes - 1
-    → serial_of u ≡ len t → is_name (name_of u) ≡ true → IsTrue (applies t u) → t' ≡ apply t u → Answered inodes size n a (make_command b path) Done t' s (w + 1)
-performed_made inodes n t t' size s w a true path u is0 stands few room serial spelled fits made =
+pub performed_made : (inodes : ℕ) (n : Now) (t t' : Rows) (size : ℕ) (room : Room) (s w a : ℕ) (b : Bool) (path : List (List ℕ)) (u : Update) → make (sizes inodes) n 0 b path ≡ (Done, Some u) → Stands n t s w → w < 512 → len t < inodes - 1
+    → serial_of u ≡ len t → is_name (name_of u) ≡ true → IsTrue (applies t u) → t' ≡ apply t u → Answered inodes size room n a (make_command b path) Done t' s (w + 1) room
+performed_made inodes n t t' size room s w a true path u is0 stands few left serial spelled fits made =
     let is = in_stream inodes n a true path (Done, Some u) stands.choices is0 in
     record {
       reply = ap (λ (z : Answer). z.0) (sym is);
-      unblocked = ap (λ (z : Answer). forces_a_seal inodes n (stream_in n.choices a) z.1) is ∙ free_made inodes n t s w a u stands few room serial spelled fits;
+      unblocked = ap (λ (z : Answer). forces_a_seal inodes n (stream_in n.choices a) z.1) is ∙ free_made inodes n t s w a u stands few left serial spelled fits;
       stands = subst (λ (z : Answer). Stands (entered_by (sizes inodes) n (entry_with n a (Mkdir path) z)) t' s (w + 1)) (sym is)
-          (stands_made inodes n t t' s w a (Mkdir path) u refl stands few room serial spelled fits made);
+          (stands_made inodes n t t' s w a (Mkdir path) u refl stands few left serial spelled fits made);
+      room_on = refl;
     }
-performed_made inodes n t t' size s w a false path u is0 stands few room serial spelled fits made =
+performed_made inodes n t t' size room s w a false path u is0 stands few left serial spelled fits made =
     let is = in_stream inodes n a false path (Done, Some u) stands.choices is0 in
     record {
       reply = ap (λ (z : Answer). z.0) (sym is);
-      unblocked = ap (λ (z : Answer). forces_a_seal inodes n (stream_in n.choices a) z.1) is ∙ free_made inodes n t s w a u stands few room serial spelled fits;
+      unblocked = ap (λ (z : Answer). forces_a_seal inodes n (stream_in n.choices a) z.1) is ∙ free_made inodes n t s w a u stands few left serial spelled fits;
       stands = subst (λ (z : Answer). Stands (entered_by (sizes inodes) n (entry_with n a (Create path) z)) t' s (w + 1)) (sym is)
-          (stands_made inodes n t t' s w a (Create path) u refl stands few room serial spelled fits made);
+          (stands_made inodes n t t' s w a (Create path) u refl stands few left serial spelled fits made);
+      room_on = refl;
     }
 
 forced : (inodes : ℕ) (n : Now) (t : Rows) (s w a : ℕ) (u : Update) → Stands n t s w → 512 ≤ w → forces_a_seal inodes n (stream_in n.choices a) (Some u) ≡ true
 forced inodes n t s w a u stands many = ap (λ (z : ℕ). forces_a_seal inodes n z (Some u)) (in_zero n a stands.choices) ∙ full inodes n.tree u n.unsealed stands.of_makes (omega (arith, stands.unsealed))
 
-pub blocked_make : (inodes : ℕ) (n : Now) (t : Rows) (size s w a : ℕ) (b : Bool) (path : List (List ℕ)) (u : Update) → make (sizes inodes) n 0 b path ≡ (Done, Some u) → Stands n t s w → 512 ≤ w
-    → is_blocked inodes size n a (make_command b path) ≡ true
-blocked_make inodes n t size s w a true path u is stands many =
+pub blocked_make : (inodes : ℕ) (n : Now) (t : Rows) (size : ℕ) (room : Room) (s w a : ℕ) (b : Bool) (path : List (List ℕ)) (u : Update) → make (sizes inodes) n 0 b path ≡ (Done, Some u) → Stands n t s w → 512 ≤ w
+    → is_blocked inodes size room n a (make_command b path) ≡ true
+blocked_make inodes n t size room s w a true path u is stands many =
     ap (λ (z : Answer). forces_a_seal inodes n (stream_in n.choices a) z.1) (in_stream inodes n a true path (Done, Some u) stands.choices is) ∙ forced inodes n t s w a u stands many
-blocked_make inodes n t size s w a false path u is stands many =
+blocked_make inodes n t size room s w a false path u is stands many =
     ap (λ (z : Answer). forces_a_seal inodes n (stream_in n.choices a) z.1) (in_stream inodes n a false path (Done, Some u) stands.choices is) ∙ forced inodes n t s w a u stands many
 
 -- ---- streamsync
@@ -253,45 +233,18 @@ sync_steps inodes n a none = ap (λ (z : ℕ). call_steps (sizes inodes) n.tree 
 open_in : (n : Now) (a : ℕ) (b : Bool) → n.choices ≡ [] → is_open n.unsealed 0 ≡ b → is_open n.unsealed (stream_in n.choices a) ≡ b
 open_in n a b none is = ap (is_open n.unsealed) (in_zero n a none) ∙ is
 
--- the length of a picture's bytes doesn't hang on its number
-pub length_plain : (k m : ℕ) (p : List Item) → length (plain_bytes k p) ≡ length (plain_bytes m p)
-length_plain k m p = refl
-
-pub synced_quiet : (inodes : ℕ) (n : Now) (t : Rows) (size s w a : ℕ) → Stands n t s w → w ≡ 0 → Answered inodes size n a StreamSync (Synced s) t s w
-synced_quiet inodes n t size s w a stands none =
-    let shut : is_open n.unsealed 0 ≡ false = open_none n.unsealed (omega (arith, stands.unsealed)) in
-    let done : List (Step Charged) = call_steps (sizes inodes) n.tree n.unsealed (SyncStream (stream_in n.choices a)) in
-    let steps : done ≡ [] = sync_steps inodes n a stands.choices ∙ sealing_none n.unsealed shut in
-    let quiet : closes done ≡ 0 = ap closes steps in
-    let kept : unsealed_after n.unsealed done ≡ n.unsealed = ap (unsealed_after n.unsealed) steps in
-    record {
-      reply = ap Synced (omega (arith, stands.seals, quiet));
-      unblocked = ap (λ (z : Bool). z && ltb size (length (plain_bytes 0 (picture n.tree)))) (open_in n a false stands.choices shut);
-      stands = record {
-        tree = stands.tree;
-        seals = omega (arith, stands.seals, quiet);
-        choices = stands.choices;
-        unsealed = stands.unsealed ∙ ap (λ (z : List (ℕ × Charged)). length z) (sym kept);
-        few = stands.few;
-        of_makes = subst OfMakes (sym kept) stands.of_makes;
-        next = omega (arith, stands.next);
-        made = stands.made;
-      };
-    }
-
-pub synced_sealed : (inodes : ℕ) (n : Now) (t : Rows) (size number s w a : ℕ) → Stands n t s w → 0 < w → length (plain_bytes number (picture t)) ≤ size → Answered inodes size n a StreamSync (Synced (s + 1)) t (s + 1) 0
-synced_sealed inodes n t size number s w a stands some fits =
+pub synced_sealed : (inodes : ℕ) (n : Now) (t : Rows) (size : ℕ) (room room' : Room) (s w a : ℕ) → Stands n t s w → 0 < w → may_commit size room t ≡ true → room' ≡ with_picture room t
+    → Answered inodes size room n a StreamSync (Synced (s + 1)) t (s + 1) 0 room'
+synced_sealed inodes n t size room room' s w a stands some fits left =
     let open_ : is_open n.unsealed 0 ≡ true = open_some n.unsealed stands.of_makes (omega (arith, stands.unsealed)) in
     let done : List (Step Charged) = call_steps (sizes inodes) n.tree n.unsealed (SyncStream (stream_in n.choices a)) in
     let steps : done ≡ Seal 0 ∷ [] = sync_steps inodes n a stands.choices ∙ sealing_one n.unsealed open_ in
     let one : closes done ≡ 1 = ap closes steps in
     let none : unsealed_after n.unsealed done ≡ [] = ap (unsealed_after n.unsealed) steps ∙ none_left n.unsealed stands.of_makes in
-    let same = ap (λ (z : Rows). length (plain_bytes 0 (picture z))) stands.tree in
-    let longs = length_plain number 0 (picture t) in
     record {
       reply = ap Synced (omega (arith, stands.seals, one));
-      unblocked = ap (λ (z : Bool). z && ltb size (length (plain_bytes 0 (picture n.tree)))) (open_in n a true stands.choices open_)
-          ∙ under size (length (plain_bytes 0 (picture n.tree))) (omega (arith, fits, same, longs));
+      unblocked = ap (λ (z : Bool). z && not (may_commit size room n.tree)) (open_in n a true stands.choices open_)
+          ∙ ap (λ (z : Rows). not (may_commit size room z)) (sym stands.tree) ∙ ap (λ (z : Bool). not z) fits;
       stands = record {
         tree = stands.tree;
         seals = omega (arith, stands.seals, one);
@@ -302,15 +255,17 @@ synced_sealed inodes n t size number s w a stands some fits =
         next = omega (arith, stands.next);
         made = stands.made;
       };
+      room_on = left ∙ ap (with_picture room) stands.tree ∙ sym (ap (λ (z : Bool). cond z (with_picture room n.tree) room) (open_in n a true stands.choices open_));
     }
 
-pub blocked_sync : (inodes : ℕ) (n : Now) (t : Rows) (size number s w a : ℕ) → Stands n t s w → 0 < w → size < length (plain_bytes number (picture t)) → is_blocked inodes size n a StreamSync ≡ true
-blocked_sync inodes n t size number s w a stands some past =
-    let open_ : is_open n.unsealed 0 ≡ true = open_some n.unsealed stands.of_makes (omega (arith, stands.unsealed)) in
-    let same = ap (λ (z : Rows). length (plain_bytes 0 (picture z))) stands.tree in
-    let longs = length_plain number 0 (picture t) in
-    ap (λ (z : Bool). z && ltb size (length (plain_bytes 0 (picture n.tree)))) (open_in n a true stands.choices open_)
-    ∙ over size (length (plain_bytes 0 (picture n.tree))) (omega (arith, past, same, longs))
+pub blocked_sync : (inodes : ℕ) (n : Now) (t : Rows) (size : ℕ) (room : Room) (s w a : ℕ) → Stands n t s w → 0 < w → may_commit size room t ≡ false → is_blocked inodes size room n a StreamSync ≡ true
+blocked_sync inodes n t size room s w a stands some barred =
+    ap (λ (z : Bool). z && not (may_commit size room n.tree)) (open_in n a true stands.choices (open_some n.unsealed stands.of_makes (omega (arith, stands.unsealed))))
+    ∙ ap (λ (z : Rows). not (may_commit size room z)) (sym stands.tree) ∙ ap (λ (z : Bool). not z) barred
+
+-- a sync of something unsealed commits
+pub sync_commits : (n : Now) (t : Rows) (s w a : ℕ) → Stands n t s w → 0 < w → commits n a StreamSync ≡ true
+sync_commits n t s w a stands some = open_in n a true stands.choices (open_some n.unsealed stands.of_makes (omega (arith, stands.unsealed)))
 
 -- ---- names of paths
 
@@ -334,11 +289,3 @@ path_last_named path ne is = last_named path ne (first (list_all is_name path) _
     first : (a b : Bool) → IsTrue (a && b) → a ≡ true
     first true b is = refl
     first false b is = absurd (cc is)
-
--- ---- other commands
-
-pub blocked_other : (inodes : ℕ) (n : Now) (size a : ℕ) (c : Command) → ((path : List (List ℕ)) → c ≡ Mkdir path → ⊥) → ((path : List (List ℕ)) → c ≡ Create path → ⊥) → (c ≡ StreamSync → ⊥) → is_blocked inodes size n a c ≡ true
-blocked_other inodes n size a (Mkdir path) no_mkdir no_create no_sync = absurd (no_mkdir path refl)
-blocked_other inodes n size a (Create path) no_mkdir no_create no_sync = absurd (no_create path refl)
-blocked_other inodes n size a StreamSync no_mkdir no_create no_sync = absurd (no_sync refl)
-blocked_other inodes n size a c no_mkdir no_create no_sync = refl

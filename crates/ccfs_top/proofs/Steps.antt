@@ -21,10 +21,11 @@ use Rattle.history_model.specs.Answers.{Answer, make, from_row, closes, is_root,
 use Rattle.history_model.specs.Histories.{steps_by, entered_by, entry_of, now_after, hist, seal_count, tree_at, synced_number, durable}
 use Rattle.history_model.proofs.Longer.{hist_append, hist_more, now_more, durable_more, longer_trees, last_cut, seals_counted}
 use Rattle.script_text.specs.declared.scripts.Call.{Call}
-use Rattle.ccfs_top.specs.Stages.{sizes, is_blocked, forces_a_seal}
+use Rattle.ccfs_top.specs.Stages.{Room, sizes, is_blocked, forces_a_seal, room_after}
 use Rattle.ccfs_top.specs.Runs.{asked, history, made, stopped, line_of, reply_lines}
 use Rattle.ccfs_top.specs.Ends.{joined}
-use Rattle.ccfs_top.specs.Sessions.{Stands, Performed}
+use Rattle.ccfs_base.specs.declared.replies.Reply.{Reply}
+use Rattle.ccfs_top.specs.Sessions.{Stands, Answered}
 use Rattle.ccfs_top.proofs.Weighing.{in_zero, accepted_alone}
 use Rattle.ccfs_top.specs.Reached.{history_to, now_at, Reached}
 
@@ -70,16 +71,16 @@ quiet_create inodes n t sealed waiting a path (r, None) stands free = refl
 quiet_create inodes n t sealed waiting a path (r, Some u) stands free = no_seal inodes n t sealed waiting a u stands free
 
 -- after a call that wasn't blocked, what is durable is what was sealed, if it was so before
-pub durable_on : (inodes size : ℕ) (n : Now) (t : Rows) (sealed waiting a : ℕ) (c : Command) (d : ℕ) → Stands n t sealed waiting → is_blocked inodes size n a c ≡ false → d ≡ n.seals
+pub durable_on : (inodes size : ℕ) (room : Room) (n : Now) (t : Rows) (sealed waiting a : ℕ) (c : Command) (d : ℕ) → Stands n t sealed waiting → is_blocked inodes size room n a c ≡ false → d ≡ n.seals
     → synced_number d (entry_of (sizes inodes) n a c).reply ≡ (entered_by (sizes inodes) n (entry_of (sizes inodes) n a c)).seals
-durable_on inodes size n t sealed waiting a (command.Mkdir path) d stands free is =
+durable_on inodes size room n t sealed waiting a (command.Mkdir path) d stands free is =
     let quiet = quiet_mkdir inodes n t sealed waiting a path (make (sizes inodes) n (stream_in n.choices a) true path) stands free in
     plain_make inodes d n (stream_in n.choices a) true path ∙ omega (arith, is, quiet)
-durable_on inodes size n t sealed waiting a (command.Create path) d stands free is =
+durable_on inodes size room n t sealed waiting a (command.Create path) d stands free is =
     let quiet = quiet_create inodes n t sealed waiting a path (make (sizes inodes) n (stream_in n.choices a) false path) stands free in
     plain_make inodes d n (stream_in n.choices a) false path ∙ omega (arith, is, quiet)
-durable_on inodes size n t sealed waiting a command.StreamSync d stands free is = refl
-durable_on inodes size n t sealed waiting a c d stands free is = absurd (cc)
+durable_on inodes size room n t sealed waiting a command.StreamSync d stands free is = refl
+durable_on inodes size room n t sealed waiting a c d stands free is = absurd (cc)
 
 -- ---- the tree that is durable
 
@@ -121,29 +122,33 @@ rest_is calls i c lt is = drop_more calls i c lt ∙ ap (λ (z : Call). z ∷ dr
 front_is : (calls : List Call) (i : ℕ) (c : Call) → i < length calls → c ≡ get_or calls i c → take (i + 1) calls ≡ take i calls ++ c ∷ []
 front_is calls i c lt is = take_more calls i c lt ∙ ap (λ (z : Call). take i calls ++ z ∷ []) (sym is)
 
-pub reached_start : (inodes size : ℕ) (n0 : Now) (calls : List Call) (tree : Rows) (unsealed : ℕ) → Stands n0 tree 0 unsealed → Reached inodes size n0 calls 0 tree 0 unsealed
-reached_start inodes size n0 calls tree unsealed stands = record { stands = stands; made = refl; stop = refl; acknowledged = refl; few = omega arith }
+pub reached_start : (inodes size : ℕ) (room : Room) (n0 : Now) (calls : List Call) (tree : Rows) (unsealed : ℕ) → Stands n0 tree 0 unsealed → Reached inodes size room n0 calls 0 tree 0 unsealed room
+reached_start inodes size room n0 calls tree unsealed stands = record { stands = stands; made = refl; stop = refl; acknowledged = refl; few = omega arith }
 
-pub reached_on : (inodes size : ℕ) (n0 : Now) (calls : List Call) (i : ℕ) (c : Call) (tree tree' : Rows) (seals unsealed seals' unsealed' : ℕ)
-    → i < length calls → c ≡ get_or calls i c → Reached inodes size n0 calls i tree seals unsealed
-    → Performed inodes size (now_at inodes n0 calls i) c.actor c.command tree' seals' unsealed' → seals' ≤ seals + 1 → Reached inodes size n0 calls (i + 1) tree' seals' unsealed'
-reached_on inodes size n0 calls i c tree tree' seals unsealed seals' unsealed' lt is r p rises =
+pub reached_on : (inodes size : ℕ) (room0 : Room) (n0 : Now) (calls : List Call) (i : ℕ) (c : Call) (answer : Reply) (tree tree' : Rows) (seals unsealed seals' unsealed' : ℕ) (room room' : Room)
+    → i < length calls → c ≡ get_or calls i c → Reached inodes size room0 n0 calls i tree seals unsealed room
+    → Answered inodes size room (now_at inodes n0 calls i) c.actor c.command answer tree' seals' unsealed' room' → seals' ≤ seals + 1 → Reached inodes size room0 n0 calls (i + 1) tree' seals' unsealed' room'
+reached_on inodes size room0 n0 calls i c answer tree tree' seals unsealed seals' unsealed' room room' lt is r p rises =
     let n = now_at inodes n0 calls i in
     let e = entry_at inodes n c in
-    let one : now_at inodes n0 calls (i + 1) ≡ entered_by (sizes inodes) n e = now_on inodes n0 calls i c lt is in
-    let go : made inodes size n (drop i calls) ≡ c ∷ made inodes size (entered_by (sizes inodes) n e) (drop (i + 1) calls) =
-    ap (made inodes size n) (rest_is calls i c lt is) ∙ ap (λ (b : Bool). cond b [] (c ∷ made inodes size (entered_by (sizes inodes) n e) (drop (i + 1) calls))) p.unblocked in
-    let halt : stopped inodes size n (drop i calls) ≡ stopped inodes size (entered_by (sizes inodes) n e) (drop (i + 1) calls) =
-    ap (stopped inodes size n) (rest_is calls i c lt is) ∙ ap (λ (b : Bool). cond b (Some c.line) (stopped inodes size (entered_by (sizes inodes) n e) (drop (i + 1) calls))) p.unblocked in
+    let m = entered_by (sizes inodes) n e in
+    let on = room_after room n c.actor c.command in
+    let one : now_at inodes n0 calls (i + 1) ≡ m = now_on inodes n0 calls i c lt is in
+    let go : made inodes size room n (drop i calls) ≡ c ∷ made inodes size room' m (drop (i + 1) calls) =
+    ap (made inodes size room n) (rest_is calls i c lt is) ∙ ap (λ (b : Bool). cond b [] (c ∷ made inodes size on m (drop (i + 1) calls))) p.unblocked
+    ∙ ap (λ (z : Room). c ∷ made inodes size z m (drop (i + 1) calls)) (sym p.room_on) in
+    let halt : stopped inodes size room n (drop i calls) ≡ stopped inodes size room' m (drop (i + 1) calls) =
+    ap (stopped inodes size room n) (rest_is calls i c lt is) ∙ ap (λ (b : Bool). cond b (Some c.line) (stopped inodes size on m (drop (i + 1) calls))) p.unblocked
+    ∙ ap (λ (z : Room). stopped inodes size z m (drop (i + 1) calls)) (sym p.room_on) in
     record {
       stands = subst (λ (z : Now). Stands z tree' seals' unsealed') (sym one) p.stands;
       made = r.made ∙ ap (λ (z : List Call). take i calls ++ z) go
-          ∙ sym (append_assoc (take i calls) (c ∷ []) (made inodes size (entered_by (sizes inodes) n e) (drop (i + 1) calls)))
-          ∙ ap (λ (z : List Call). z ++ made inodes size (entered_by (sizes inodes) n e) (drop (i + 1) calls)) (sym (front_is calls i c lt is))
-          ∙ ap (λ (z : Now). take (i + 1) calls ++ made inodes size z (drop (i + 1) calls)) (sym one);
-      stop = r.stop ∙ halt ∙ ap (λ (z : Now). stopped inodes size z (drop (i + 1) calls)) (sym one);
+          ∙ sym (append_assoc (take i calls) (c ∷ []) (made inodes size room' m (drop (i + 1) calls)))
+          ∙ ap (λ (z : List Call). z ++ made inodes size room' m (drop (i + 1) calls)) (sym (front_is calls i c lt is))
+          ∙ ap (λ (z : Now). take (i + 1) calls ++ made inodes size room' z (drop (i + 1) calls)) (sym one);
+      stop = r.stop ∙ halt ∙ ap (λ (z : Now). stopped inodes size room' z (drop (i + 1) calls)) (sym one);
       acknowledged = ap durable (history_on inodes n0 calls i c lt is) ∙ durable_more (history_to inodes n0 calls i) e
-          ∙ durable_on inodes size n tree seals unsealed c.actor c.command (durable (history_to inodes n0 calls i)) r.stands p.unblocked (r.acknowledged ∙ r.stands.seals)
+          ∙ durable_on inodes size room n tree seals unsealed c.actor c.command (durable (history_to inodes n0 calls i)) r.stands p.unblocked (r.acknowledged ∙ r.stands.seals)
           ∙ sym p.stands.seals;
       few = omega (arith, r.few, rises);
     }
@@ -151,29 +156,29 @@ reached_on inodes size n0 calls i c tree tree' seals unsealed seals' unsealed' l
 -- ---- where a run ends
 
 -- at a call that is blocked
-pub blocked_made : (inodes size : ℕ) (n0 : Now) (calls : List Call) (i : ℕ) (c : Call) (tree : Rows) (seals unsealed : ℕ) → i < length calls → c ≡ get_or calls i c
-    → Reached inodes size n0 calls i tree seals unsealed → is_blocked inodes size (now_at inodes n0 calls i) c.actor c.command ≡ true → made inodes size n0 calls ≡ take i calls
-blocked_made inodes size n0 calls i c tree seals unsealed lt is r blocked =
+pub blocked_made : (inodes size : ℕ) (room0 : Room) (n0 : Now) (calls : List Call) (i : ℕ) (c : Call) (tree : Rows) (seals unsealed : ℕ) (room : Room) → i < length calls → c ≡ get_or calls i c
+    → Reached inodes size room0 n0 calls i tree seals unsealed room → is_blocked inodes size room (now_at inodes n0 calls i) c.actor c.command ≡ true → made inodes size room0 n0 calls ≡ take i calls
+blocked_made inodes size room0 n0 calls i c tree seals unsealed room lt is r blocked =
     let n = now_at inodes n0 calls i in
-    r.made ∙ ap (λ (z : List Call). take i calls ++ z) (ap (made inodes size n) (rest_is calls i c lt is)
-    ∙ ap (λ (b : Bool). cond b [] (c ∷ made inodes size (entered_by (sizes inodes) n (entry_at inodes n c)) (drop (i + 1) calls))) blocked) ∙ append-nil (take i calls)
+    r.made ∙ ap (λ (z : List Call). take i calls ++ z) (ap (made inodes size room n) (rest_is calls i c lt is)
+    ∙ ap (λ (b : Bool). cond b [] (c ∷ made inodes size (room_after room n c.actor c.command) (entered_by (sizes inodes) n (entry_at inodes n c)) (drop (i + 1) calls))) blocked) ∙ append-nil (take i calls)
 
-pub blocked_stop : (inodes size : ℕ) (n0 : Now) (calls : List Call) (i : ℕ) (c : Call) (tree : Rows) (seals unsealed : ℕ) → i < length calls → c ≡ get_or calls i c
-    → Reached inodes size n0 calls i tree seals unsealed → is_blocked inodes size (now_at inodes n0 calls i) c.actor c.command ≡ true → stopped inodes size n0 calls ≡ Some c.line
-blocked_stop inodes size n0 calls i c tree seals unsealed lt is r blocked =
+pub blocked_stop : (inodes size : ℕ) (room0 : Room) (n0 : Now) (calls : List Call) (i : ℕ) (c : Call) (tree : Rows) (seals unsealed : ℕ) (room : Room) → i < length calls → c ≡ get_or calls i c
+    → Reached inodes size room0 n0 calls i tree seals unsealed room → is_blocked inodes size room (now_at inodes n0 calls i) c.actor c.command ≡ true → stopped inodes size room0 n0 calls ≡ Some c.line
+blocked_stop inodes size room0 n0 calls i c tree seals unsealed room lt is r blocked =
     let n = now_at inodes n0 calls i in
-    r.stop ∙ ap (stopped inodes size n) (rest_is calls i c lt is)
-    ∙ ap (λ (b : Bool). cond b (Some c.line) (stopped inodes size (entered_by (sizes inodes) n (entry_at inodes n c)) (drop (i + 1) calls))) blocked
+    r.stop ∙ ap (stopped inodes size room n) (rest_is calls i c lt is)
+    ∙ ap (λ (b : Bool). cond b (Some c.line) (stopped inodes size (room_after room n c.actor c.command) (entered_by (sizes inodes) n (entry_at inodes n c)) (drop (i + 1) calls))) blocked
 
 -- at the end of the calls
-pub all_made : (inodes size : ℕ) (n0 : Now) (calls : List Call) (i : ℕ) (tree : Rows) (seals unsealed : ℕ) → length calls ≤ i → Reached inodes size n0 calls i tree seals unsealed
-    → made inodes size n0 calls ≡ take i calls
-all_made inodes size n0 calls i tree seals unsealed le r =
-    r.made ∙ ap (λ (z : List Call). take i calls ++ made inodes size (now_at inodes n0 calls i) z) (drop_all i calls le) ∙ append-nil (take i calls)
+pub all_made : (inodes size : ℕ) (room0 : Room) (n0 : Now) (calls : List Call) (i : ℕ) (tree : Rows) (seals unsealed : ℕ) (room : Room) → length calls ≤ i → Reached inodes size room0 n0 calls i tree seals unsealed room
+    → made inodes size room0 n0 calls ≡ take i calls
+all_made inodes size room0 n0 calls i tree seals unsealed room le r =
+    r.made ∙ ap (λ (z : List Call). take i calls ++ made inodes size room (now_at inodes n0 calls i) z) (drop_all i calls le) ∙ append-nil (take i calls)
 
-pub none_stopped : (inodes size : ℕ) (n0 : Now) (calls : List Call) (i : ℕ) (tree : Rows) (seals unsealed : ℕ) → length calls ≤ i → Reached inodes size n0 calls i tree seals unsealed
-    → stopped inodes size n0 calls ≡ None
-none_stopped inodes size n0 calls i tree seals unsealed le r = r.stop ∙ ap (stopped inodes size (now_at inodes n0 calls i)) (drop_all i calls le)
+pub none_stopped : (inodes size : ℕ) (room0 : Room) (n0 : Now) (calls : List Call) (i : ℕ) (tree : Rows) (seals unsealed : ℕ) (room : Room) → length calls ≤ i → Reached inodes size room0 n0 calls i tree seals unsealed room
+    → stopped inodes size room0 n0 calls ≡ None
+none_stopped inodes size room0 n0 calls i tree seals unsealed room le r = r.stop ∙ ap (stopped inodes size room (now_at inodes n0 calls i)) (drop_all i calls le)
 
 -- ---- the reply lines
 
@@ -182,11 +187,11 @@ lines_more [] e = append-nil (line_of e)
 lines_more (d ∷ h) e = ap (λ (z : List ℕ). line_of d ++ z) (lines_more h e) ∙ sym (append_assoc (line_of d) (joined (reply_lines h)) (line_of e))
 
 -- the reply lines so far stand first among all
-pub lines_first : (inodes size : ℕ) (n0 : Now) (calls : List Call) (i : ℕ) (tree : Rows) (seals unsealed : ℕ) → Reached inodes size n0 calls i tree seals unsealed
-    → (g : List (List ℕ)) × (reply_lines (history inodes n0 (made inodes size n0 calls)) ≡ reply_lines (history_to inodes n0 calls i) ++ g)
-lines_first inodes size n0 calls i tree seals unsealed r =
+pub lines_first : (inodes size : ℕ) (room0 : Room) (n0 : Now) (calls : List Call) (i : ℕ) (tree : Rows) (seals unsealed : ℕ) (room : Room) → Reached inodes size room0 n0 calls i tree seals unsealed room
+    → (g : List (List ℕ)) × (reply_lines (history inodes n0 (made inodes size room0 n0 calls)) ≡ reply_lines (history_to inodes n0 calls i) ++ g)
+lines_first inodes size room0 n0 calls i tree seals unsealed room r =
     let n = now_at inodes n0 calls i in
-    let rest = made inodes size n (drop i calls) in (
+    let rest = made inodes size room n (drop i calls) in (
       reply_lines (history inodes n rest),
       ap (λ (z : List Call). reply_lines (history inodes n0 z)) r.made
           ∙ ap (λ (z : List (ℕ × Command)). reply_lines (hist (sizes inodes) n0 z)) (map-append (λ (z : Call). (z.actor, z.command)) (take i calls) rest)

@@ -65,15 +65,8 @@ pub open_some : (l : List (ℕ × Charged)) → OfMakes l → 0 < length l → i
 open_some [] all some = absurd (omega arith)
 open_some (e ∷ l) all some = ap (λ (b : Bool). b || is_open l 0) (here e all.0)
 
-pub open_none : (l : List (ℕ × Charged)) → length l ≡ 0 → is_open l 0 ≡ false
-open_none [] none = refl
-open_none (e ∷ l) none = absurd (omega arith)
-
 pub sealing_one : (l : List (ℕ × Charged)) → is_open l 0 ≡ true → sealing (0 ∷ []) l ≡ Seal 0 ∷ []
 sealing_one l is = ap (λ (b : Bool). map Seal (cond b (0 ∷ []) [])) is
-
-pub sealing_none : (l : List (ℕ × Charged)) → is_open l 0 ≡ false → sealing (0 ∷ []) l ≡ []
-sealing_none l is = ap (λ (b : Bool). map Seal (cond b (0 ∷ []) [])) is
 
 -- ---- tests
 

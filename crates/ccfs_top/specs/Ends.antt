@@ -1,5 +1,5 @@
 -- How a run ends: as expected, or by a fault; and what was written until then.
-use Rattle.std.specs.Prelude.{◌≡◌, ◌⊎◌, ℕ, ◌≤◌, List, ◌++◌, length, take}
+use Rattle.std.specs.Prelude.{◌≡◌, ◌⊎◌, ℕ, ◌≤◌, List, [], ◌∷◌, ◌++◌, length, take, drop}
 use Rattle.std.specs.List.{flat_map}
 use Rattle.script_text.specs.Texts.{script_fault_line, disk_fault_line, memory_fault_line}
 use Rattle.ccfs_top.specs.Runs.{Expected}
@@ -23,24 +23,38 @@ IsFault status = (status ≡ 5) ⊎ (status ≡ 6) ⊎ (status ≡ 7) ⊎ (statu
 abbrev pub HasLine : ℕ → List ℕ → Type 0
 HasLine status line = ((status ≡ 5) × (line ≡ script_fault_line)) ⊎ ((status ≡ 7) × (line ≡ disk_fault_line)) ⊎ ((status ≡ 9) × (line ≡ memory_fault_line))
 
--- a run that ended as expected: with status 0 the whole output was written, else the line's front where the sink failed
-pub record AsExpected (e : Expected) (sink_failed : Type 0) (code : ℕ) (written : List ℕ) : Type 0 where
+-- a text is the front of another, and lacks its last byte
+abbrev pub IsPart : List ℕ → List ℕ → Type 0
+IsPart a b = (rest : List ℕ) × (b ≡ a ++ rest) × (1 ≤ length rest)
+
+-- the first of some lines, or this where there is none
+abbrev pub first_or : List ℕ → List (List ℕ) → List ℕ
+first_or last [] = last
+first_or last (line ∷ lines) = line
+
+-- what is to come behind so many reply lines: the next one, or what stands behind them all
+abbrev pub line_behind : Expected → ℕ → List ℕ
+line_behind e lines = first_or e.last (drop lines e.replies)
+
+-- an end as expected: all reply lines; and with status 0 the whole of the rest, else its front where the sink failed
+pub record AsExpected (e : Expected) (sink_failed : Type 0) (lines code : ℕ) (written : List ℕ) : Type 0 where
   pub status : code ≡ e.status
+  pub all : lines ≡ length e.replies
   pub said : List ℕ
   pub text : written ≡ joined e.replies ++ said
   pub line : IsSaid sink_failed e.last said
   pub whole : code ≡ 0 → said ≡ e.last
 
--- a run that the sink ended: what was written is the front of what was to come
-pub record BySink (e : Expected) (sink_failed : Type 0) (code : ℕ) (written : List ℕ) : Type 0 where
+-- an end by the sink: so many whole reply lines, and a part of what is to come behind them
+pub record BySink (e : Expected) (sink_failed : Type 0) (lines code : ℕ) (written : List ℕ) : Type 0 where
   pub status : code ≡ 6
   pub failed : sink_failed
-  pub text : IsFront written (joined e.replies ++ e.last)
+  pub said : List ℕ
+  pub text : written ≡ joined (take lines e.replies) ++ said
+  pub part : IsPart said (line_behind e lines)
 
--- a run that another fault ended: some reply lines, and the fault's line
-pub record ByFault (e : Expected) (sink_failed : Type 0) (code : ℕ) (written : List ℕ) : Type 0 where
-  pub lines : ℕ
-  pub few : lines ≤ length e.replies
+-- an end by another fault: so many reply lines, and the fault's line
+pub record ByFault (e : Expected) (sink_failed : Type 0) (lines code : ℕ) (written : List ℕ) : Type 0 where
   pub line : List ℕ
   pub fault : HasLine code line
   pub said : List ℕ
@@ -48,15 +62,16 @@ pub record ByFault (e : Expected) (sink_failed : Type 0) (code : ℕ) (written :
   pub whole : IsSaid sink_failed line said
   pub script_first : code ≡ 5 → lines ≡ 0
 
--- how a run ended, and what was written where the sink tells it
-abbrev pub Ends : Expected → Type 0 → ℕ → List ℕ → Type 0
-Ends e sink_failed status written = AsExpected e sink_failed status written ⊎ BySink e sink_failed status written ⊎ ByFault e sink_failed status written
+-- the end, and what was written where the sink tells it: so many whole reply lines, and something behind them
+abbrev pub Ends : Expected → Type 0 → ℕ → ℕ → List ℕ → Type 0
+Ends e sink_failed lines status written = AsExpected e sink_failed lines status written ⊎ BySink e sink_failed lines status written ⊎ ByFault e sink_failed lines status written
 
--- how a run ended, by its status alone
-pub record EndsWith (e : Expected) (code number : ℕ) : Type 0 where
+-- the end by its status alone, with so many of the reply lines
+pub record EndsWith (e : Expected) (lines code number : ℕ) : Type 0 where
   pub status : (code ≡ e.status) ⊎ IsFault code
   pub batches : code ≡ e.status → number ≡ e.batches
+  pub few : lines ≤ length e.replies
 
--- the text grew from old to new as the run ended so
-abbrev pub Wrote : Expected → Type 0 → ℕ → List ℕ → List ℕ → Type 0
-Wrote e sink_failed status old new = (written : List ℕ) × (new ≡ old ++ written) × Ends e sink_failed status written
+-- the text grew from old to new as the end says
+abbrev pub Wrote : Expected → Type 0 → ℕ → ℕ → List ℕ → List ℕ → Type 0
+Wrote e sink_failed lines status old new = (written : List ℕ) × (new ≡ old ++ written) × Ends e sink_failed lines status written

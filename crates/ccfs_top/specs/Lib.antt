@@ -1,8 +1,11 @@
 pub mod Found
 pub mod Made
 pub mod Stages
+pub mod Images
+pub mod Asked
 pub mod Runs
 pub mod Ends
 pub mod Stops
 pub mod Sessions
 pub mod Reached
+pub mod Left

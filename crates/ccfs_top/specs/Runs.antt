@@ -1,45 +1,45 @@
--- What a run of a script writes and answers, as a function of the words, the script and the contents that are found.
-use Rattle.std.specs.Prelude.{ℕ, ◌+◌, ◌%◌, ◌^◌, Bool, true, false, cond, ◌&&◌, eqb, List, [], ◌∷◌, length, map, codes, String, string_bytes, slice_get}
-use Rattle.std.specs.declared.alloc.Global.{Global}
+-- What a run of a script, and the other rows of the command line, write and answer: functions of the words, the script and
+-- what is found.
+use Rattle.std.specs.Prelude.{ℕ, ◌+◌, ◌-◌, ◌%◌, ◌^◌, cond, List, [], ◌∷◌, length, map}
 use Rattle.std.specs.declared.option.Option.{Option}
 use Rattle.std.specs.declared.option.Option.TheVariants.{None, Some}
 use Rattle.std.specs.declared.result.Result.{Result}
 use Rattle.std.specs.declared.result.Result.TheVariants.{Ok, Err}
 use Rattle.ccfs_base.specs.declared.commands.Command.{Command}
-use Rattle.std.specs.Str.{bytes_eq}
 use Rattle.tree_model.specs.declared.rows.Entry.{Entry}
 use Rattle.tree_model.specs.Rows.{Rows}
 use Rattle.tree_model.specs.Picture.{picture}
 use Rattle.history_model.specs.State.{Now}
 use Rattle.history_model.specs.Histories.{start, entered_by, entry_of, hist, durable, tree_at}
 use Rattle.script_text.specs.declared.scripts.Call.{Call}
-use Rattle.script_text.specs.Scripts.{calls_of, is_long}
-use Rattle.script_text.specs.Texts.{reply_line, usage_line, too_long_line, bad_image_line, not_built_line}
+use Rattle.script_text.specs.Scripts.{calls_of, first_unbuilt, is_long}
+use Rattle.script_text.specs.Texts.{reply_line, too_long_line, bad_image_line, bad_line_line, made_line, memory_fault_line, not_built_line}
 use Rattle.script_text.specs.Trees.{tree_lines}
-use Rattle.plain_image.specs.Opened.{opened}
-use Rattle.ccfs_top.specs.Stages.{sizes, is_blocked}
-
--- whether the words are those of a run: the program, `run`, an image and a script
-abbrev pub is_run_word : Option (String Global) → Bool
-is_run_word None = false
-is_run_word (Some word) = bytes_eq (string_bytes word) (codes "run")
-
-abbrev pub is_run : List (String Global) → Bool
-is_run words = eqb (length words) 4 && is_run_word (slice_get words 1)
+use Rattle.block_layout.specs.Sizes.{data_start}
+use Rattle.gate_journal.specs.declared.halves.Half.{Half}
+use Rattle.gate_journal.specs.Halves.{journal_of}
+use Rattle.block_layout.specs.declared.geometry.Geometry.{Geometry}
+use Rattle.recovery.specs.Bad.{kind_name}
+use Rattle.ccfs_top.specs.Stages.{Room, sizes, is_blocked, room_in, room_after}
+use Rattle.ccfs_top.specs.Images.{Image, Finding, Holds, Spoilt, Unread}
 
 -- a batch number, some places further
 abbrev pub further : ℕ → ℕ → ℕ
 further k n = (k + n) % 2 ^ 64
 
--- the calls before the first that isn't built, over an image with so many inodes on a disk of that many bytes
-abbrev pub made : ℕ → ℕ → Now → List Call → List Call
-made inodes size n [] = []
-made inodes size n (c ∷ cs) = cond (is_blocked inodes size n c.actor c.command) [] (c ∷ made inodes size (entered_by (sizes inodes) n (entry_of (sizes inodes) n c.actor c.command)) cs)
+-- the calls before the first that isn't built, over an image with so many inodes, a volume of so many bytes and this room
+abbrev pub made : ℕ → ℕ → Room → Now → List Call → List Call
+made inodes size room n [] = []
+made inodes size room n (c ∷ cs) =
+    cond (is_blocked inodes size room n c.actor c.command) []
+    (c ∷ made inodes size (room_after room n c.actor c.command) (entered_by (sizes inodes) n (entry_of (sizes inodes) n c.actor c.command)) cs)
 
 -- the line of the first that isn't built
-abbrev pub stopped : ℕ → ℕ → Now → List Call → Option ℕ
-stopped inodes size n [] = None
-stopped inodes size n (c ∷ cs) = cond (is_blocked inodes size n c.actor c.command) (Some c.line) (stopped inodes size (entered_by (sizes inodes) n (entry_of (sizes inodes) n c.actor c.command)) cs)
+abbrev pub stopped : ℕ → ℕ → Room → Now → List Call → Option ℕ
+stopped inodes size room n [] = None
+stopped inodes size room n (c ∷ cs) =
+    cond (is_blocked inodes size room n c.actor c.command) (Some c.line)
+    (stopped inodes size (room_after room n c.actor c.command) (entered_by (sizes inodes) n (entry_of (sizes inodes) n c.actor c.command)) cs)
 
 -- the history of these calls
 abbrev pub asked : List Call → List (ℕ × Command)
@@ -55,14 +55,25 @@ line_of e = reply_line e.actor e.reply
 abbrev pub reply_lines : List Entry → List (List ℕ)
 reply_lines h = map line_of h
 
--- the history of the calls before the first that isn't built, and its reply lines
-abbrev pub final_history : ℕ → ℕ → Now → List Call → List Entry
-final_history inodes size n calls = history inodes n (made inodes size n calls)
+-- an image, by what a session keeps of it
+abbrev pub image_by : ℕ → Rows → Geometry → Half → List ℕ → Image
+image_by number tree geometry half bytes = record { number = number; tree = tree; inodes = geometry.inodes; size = length bytes; room = room_in (journal_of half) }
 
-abbrev pub replies : ℕ → ℕ → Now → List Call → List (List ℕ)
-replies inodes size n calls = reply_lines (final_history inodes size n calls)
+-- the calls that are made over an image, their history, and its reply lines
+abbrev pub made_over : Image → List Call → List Call
+made_over image calls = made image.inodes image.size image.room (start image.tree) calls
 
--- What is to come of a run: its status, the reply lines, what stands behind them, and the number that is printed.
+abbrev pub final_history : Image → List Call → List Entry
+final_history image calls = history image.inodes (start image.tree) (made_over image calls)
+
+abbrev pub replies : Image → List Call → List (List ℕ)
+replies image calls = reply_lines (final_history image calls)
+
+-- the line of the first call that isn't built
+abbrev pub stopped_over : Image → List Call → Option ℕ
+stopped_over image calls = stopped image.inodes image.size image.room (start image.tree) calls
+
+-- What is to come: a status, the reply lines, what stands behind them, and the number that is answered.
 pub record Expected : Type 0 where
   pub status : ℕ
   pub replies : List (List ℕ)
@@ -74,41 +85,56 @@ abbrev pub alone : ℕ → List ℕ → Expected
 alone status line = record { status = status; replies = []; last = line; batches = 0 }
 
 -- a run that comes to its end: the replies, and the tree of what is durable, with its number
-abbrev pub finished : ℕ → ℕ → Now → List Entry → Expected
-finished inodes k n h = record {
+abbrev pub finished : Image → List Entry → Expected
+finished image h = record {
   status = 0;
   replies = reply_lines h;
-  last = tree_lines (further k (durable h)) (picture (tree_at (sizes inodes) n h (durable h)));
-  batches = further k (durable h);
+  last = tree_lines (further image.number (durable h)) (picture (tree_at (sizes image.inodes) (start image.tree) h (durable h)));
+  batches = further image.number (durable h);
 }
 
 -- a run that comes to a call that isn't built
 abbrev pub halted : ℕ → List Entry → Expected
 halted line h = record { status = 1; replies = reply_lines h; last = not_built_line line; batches = 0 }
 
-abbrev pub ran_until : ℕ → ℕ → Now → List Entry → Option ℕ → Expected
-ran_until inodes k n h None = finished inodes k n h
-ran_until inodes k n h (Some line) = halted line h
+abbrev pub ran_until : Image → List Entry → Option ℕ → Expected
+ran_until image h None = finished image h
+ran_until image h (Some line) = halted line h
 
--- the run of these calls over a tree with the number k, of an image with so many inodes on a disk of that many bytes
-abbrev pub ran : ℕ → ℕ → ℕ → Now → List Call → Expected
-ran inodes size k n calls = ran_until inodes k n (final_history inodes size n calls) (stopped inodes size n calls)
+-- the run of these calls over an image
+abbrev pub ran : Image → List Call → Expected
+ran image calls = ran_until image (final_history image calls) (stopped_over image calls)
 
--- How many inodes a plain image has: 8,192, so that its tree has at most 8,191 rows. A plain picture doesn't tell the
--- number, so it is the same for each.
-abbrev pub plain_inodes : ℕ
-plain_inodes = 8192
+-- what comes of what is found, where a good image has this end. Where nothing was read, a fault is the end: want of memory
+-- stands for any
+abbrev pub over : {A : Type 0} → (A → Expected) → Finding A → Expected
+over good (Holds a) = good a
+over good (Spoilt kind block) = alone 8 (bad_image_line (kind_name kind) block)
+over good Unread = alone 9 memory_fault_line
 
--- the run of these calls over the contents that are found
-abbrev pub over_found : ℕ → List Call → Option (ℕ × Rows) → Expected
-over_found size calls None = alone 8 bad_image_line
-over_found size calls (Some o) = ran plain_inodes size o.0 (start o.1) calls
+-- what comes of these calls, of which this is the line of the first that isn't built
+abbrev pub over_calls : Finding Image → List Call → Option ℕ → Expected
+over_calls found calls (Some line) = alone 1 (not_built_line line)
+over_calls found calls None = over (λ image. ran image calls) found
 
-abbrev pub over_script : List ℕ → Result (List Call) ℕ → Expected
-over_script found (Err line) = alone 1 (not_built_line line)
-over_script found (Ok calls) = over_found (length found) calls (opened found)
+-- what comes of a script's calls, or of its first line that is outside the grammar
+abbrev pub over_script : Finding Image → Result (List Call) ℕ → Expected
+over_script found (Err line) = alone 3 (bad_line_line line)
+over_script found (Ok calls) = over_calls found calls (first_unbuilt calls)
 
--- what is to come of the words, with this script and these contents
-abbrev pub expected : Bool → List ℕ → List ℕ → Expected
-expected false script found = alone 2 usage_line
-expected true script found = cond (is_long script) (alone 4 too_long_line) (over_script found (calls_of script))
+-- what is to come of a run of this script
+abbrev pub expected : List ℕ → Finding Image → Expected
+expected script found = cond (is_long script) (alone 4 too_long_line) (over_script found (calls_of script))
+
+-- the calls of a script, where each line is in the grammar
+abbrev pub calls_in : Result (List Call) ℕ → List Call
+calls_in (Ok calls) = calls
+calls_in (Err line) = []
+
+-- the tree with this number is printed
+abbrev pub printed : ℕ × Rows → Expected
+printed p = record { status = 0; replies = []; last = tree_lines p.0 (picture p.1); batches = p.0 }
+
+-- an image of so many blocks and inodes is made
+abbrev pub fresh : ℕ → ℕ → Expected
+fresh blocks inodes = alone 0 (made_line blocks inodes (blocks - data_start inodes))

@@ -1,5 +1,5 @@
--- What a session keeps of what its history left, and what its disk shows.
-use Rattle.std.specs.Prelude.{◌≡◌, ℕ, ◌+◌, ◌≤◌, Bool, true, false, List, [], length}
+-- What a session keeps of what its history left, and what its volume shows.
+use Rattle.std.specs.Prelude.{◌≡◌, ◌⊎◌, ℕ, ◌+◌, ◌≤◌, Bool, true, false, List, [], length}
 use Rattle.std.specs.List.{AllByRecursion}
 use Rattle.std.specs.declared.option.Option.TheVariants.{Some}
 use Rattle.std.specs.FinMap.{len}
@@ -13,10 +13,13 @@ use Rattle.tree_model.specs.Rows.{Rows}
 use Rattle.tree_cuts.specs.Calls.{Charged}
 use Rattle.history_model.specs.State.{Now}
 use Rattle.history_model.specs.Histories.{entered_by, entry_of}
-use Rattle.plain_image.specs.Plain.{plain_of}
+use Rattle.block_layout.specs.declared.geometry.Geometry.{Geometry}
+use Rattle.gate_journal.specs.declared.halves.Half.{Half}
+use Rattle.atomic_volume.specs.Held.{contents_by}
+use Rattle.recovery.specs.Pictures.{picture_shown, shown}
 use Rattle.ccfs_top.specs.Made.{IsMade}
 use Rattle.ccfs_top.specs.Runs.{further}
-use Rattle.ccfs_top.specs.Stages.{sizes, is_blocked}
+use Rattle.ccfs_top.specs.Stages.{Room, sizes, is_blocked, room_after}
 
 -- an unsealed update of stream 0 that made a row: it weighs 512, and gives up nothing
 pub record IsOfMake (e : ℕ × Charged) : Type 0 where
@@ -60,30 +63,29 @@ abbrev pub make_command : Bool → List (List ℕ) → Command
 make_command true path = Mkdir path
 make_command false path = Create path
 
--- a call that was answered so where the history left n, over an image with so many inodes on a disk of that many bytes: it
--- wasn't blocked, the reply is that of its entry, and the session stands as the entry leaves it
-pub record Answered (inodes size : ℕ) (n : Now) (actor : ℕ) (command : Command) (answered : Reply) (t : Rows) (sealed waiting : ℕ) : Type 0 where
-  pub unblocked : is_blocked inodes size n actor command ≡ false
+-- a call that was answered so where the history left n, over an image with so many inodes, a volume of so many bytes and
+-- this room: it wasn't blocked, the reply is that of its entry, and the session stands as the entry leaves it
+pub record Answered (inodes size : ℕ) (room : Room) (n : Now) (actor : ℕ) (command : Command) (answered : Reply) (t : Rows) (sealed waiting : ℕ) (room' : Room) : Type 0 where
+  pub unblocked : is_blocked inodes size room n actor command ≡ false
   pub reply : answered ≡ (entry_of (sizes inodes) n actor command).reply
   pub stands : Stands (entered_by (sizes inodes) n (entry_of (sizes inodes) n actor command)) t sealed waiting
+  pub room_on : room' ≡ room_after room n actor command
 
--- the same, whatever was answered
-pub record Performed (inodes size : ℕ) (n : Now) (actor : ℕ) (command : Command) (t : Rows) (sealed waiting : ℕ) : Type 0 where
-  pub unblocked : is_blocked inodes size n actor command ≡ false
-  pub stands : Stands (entered_by (sizes inodes) n (entry_of (sizes inodes) n actor command)) t sealed waiting
+-- a volume, by what is known of it, shows this number and this picture
+abbrev pub Shows : Geometry → Half → List ℕ → ℕ → List Item → Type 0
+Shows geometry half bytes number items = picture_shown (contents_by geometry half bytes) ≡ Some (number, items)
 
--- the contents spell this number and this picture, and no write that failed may still change them
-pub record Shows (in_doubt : Bool) (seen : List ℕ) (number : ℕ) (picture : List Item) : Type 0 where
-  pub settled : in_doubt ≡ false
-  pub spelled : plain_of seen ≡ Some (number, picture)
-
--- nothing was sealed: the number and the disk are as before
-pub record IsQuiet {D : Type 0} (before now : ℕ) (old new : D) : Type 0 where
+-- nothing was sealed: the number and the volume are as before
+pub record IsQuiet {V : Type 0} (before now : ℕ) (old new : V) : Type 0 where
   pub number : now ≡ before
-  pub disk : new ≡ old
+  pub volume : new ≡ old
 
 -- one seal more: the number is one further, and nothing is left unsealed
 pub record IsSealed (before now sealed sealed' waiting : ℕ) : Type 0 where
   pub number : now ≡ further before 1
   pub seals : sealed' ≡ sealed + 1
   pub unsealed : waiting ≡ 0
+
+-- an image on the way shows the first of these; or the second, where it may
+abbrev pub EitherShown : Bool → ℕ × List Item → ℕ × List Item → List ℕ → Type 0
+EitherShown may first second c = (shown c ≡ Some first) ⊎ ((may ≡ true) × (shown c ≡ Some second))

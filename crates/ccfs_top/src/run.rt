@@ -1,71 +1,58 @@
 //! The calls of a script, one after another.
-ghost use Rattle.std.specs.Prelude.{◌≡◌, ◌≢◌, ◌≤◌, ◌<◌, ◌+◌, ◌-◌, ◌^◌, ◌++◌, ℕ, List, [], true, false, length, take, OnOk, OnErr, IsErr, IsErrOf, None, Some};
+ghost use Rattle.std.specs.Prelude.{◌≡◌, ◌≢◌, ◌⊎◌, ◌≤◌, ◌<◌, ◌+◌, ◌-◌, ◌^◌, ◌++◌, ℕ, List, [], true, false, IsTrue, length, take, OnOk, OnErr, IfOk, IfErr, IsErrOf, None, Some};
 ghost use Rattle.fault_counts.specs.Counts.{Rose};
+ghost use Rattle.tree_model.specs.declared.picturing.Item.{Item};
 ghost use Rattle.tree_model.specs.Picture.{picture};
 ghost use Rattle.history_model.specs.State.{Now};
-ghost use Rattle.history_model.specs.Histories.{start, entry_of, durable, tree_at};
-ghost use Rattle.ccfs_top.specs.Ends.{IsFront, joined};
+ghost use Rattle.history_model.specs.Histories.{start, durable, tree_at};
+ghost use Rattle.script_text.specs.Texts.{reply_line};
+ghost use Rattle.gate_journal.specs.Halves.{journal_of};
+ghost use Rattle.gate_journal.specs.Runs.{LeavesBy};
+ghost use Rattle.recovery.specs.Pictures.{is_last};
+ghost use Rattle.ccfs_top.specs.Ends.{IsPart, joined};
+ghost use Rattle.ccfs_top.specs.Images.{Holds};
+ghost use Rattle.ccfs_top.specs.Left.{Kept, Halts};
 ghost use Rattle.ccfs_top.specs.Made.{IsMade};
-ghost use Rattle.ccfs_top.specs.Runs.{stopped, line_of, replies, final_history, further};
-ghost use Rattle.ccfs_top.specs.Sessions.{Stands, Performed, Shows, IsQuiet, IsSealed};
-ghost use Rattle.ccfs_top.specs.Stages.{sizes, is_blocked};
+ghost use Rattle.ccfs_top.specs.Runs.{further, image_by, final_history, replies, stopped_over, ran};
+ghost use Rattle.ccfs_top.specs.Sessions.{Stands, Answered, Shows, IsQuiet, IsSealed, EitherShown};
+ghost use Rattle.ccfs_top.specs.Stages.{sizes, is_blocked, commits, room_in};
+ghost use Rattle.ccfs_top.specs.Stops.{IsFaultStop};
 
 use crate::session::{Session, StepFault};
-use ccfs_base::{Sink, write_all};
+use crate::stop::Stop;
+use ccfs_base::{Reply, Sink, write_all};
 use disk_model::Disk;
 use script_text::{Call, reply_text};
 use std::alloc::Global;
 
-/// Why a run stopped before its end.
-#[derive(Clone, Copy, Debug, PartialEq, Eq, Drop)]
-pub enum RunFault {
-    /// The disk failed.
-    Disk,
-    /// The sink failed.
-    Sink,
-    /// There was no memory.
-    NoMemory,
-    /// What the call of this line asks for isn't built.
-    NotBuilt { line: u32 },
+/// Why a run stops at a call of this line that isn't performed.
+fn stop_of_step(fault: StepFault, line: u32) -> Stop
+    ensures device { (fault ≡ StepFault.Device → result ≡ Stop.Disk) × (result ≡ Stop.Disk → fault ≡ StepFault.Device) }
+    ensures not_built { (at : ℕ) → result ≡ Stop.NotBuilt at → (at ≡ line) × (fault ≡ StepFault.NotBuilt) }
+    ensures kinds { (result ≡ Stop.Disk) ⊎ (result ≡ Stop.NoMemory) ⊎ (result ≡ Stop.NotBuilt line) }
+{
+    match fault {
+        StepFault::Device => Stop::Disk,
+        StepFault::NoMemory => Stop::NoMemory,
+        StepFault::NotBuilt => Stop::NotBuilt { line },
+    }
 }
 
-/// Performs one call and writes the line of its reply.
-fn perform<D: Disk, K: Sink>(
-    alloc: Global,
-    session: &mut Session<D>,
-    call: &Call,
-    out: &mut K,
-) -> Result<(), RunFault>
-    requires made { IsMade session.old.tree }
-    requires room { session.old.seals < 2 ^ 64 - 1 }
-    ensures performed { (n : Now) → Stands n session.old.tree session.old.seals session.old.unsealed → OnOk result (Performed session.old.inodes (D.known session.old.disk) n call.now.actor call.now.command session.new.tree session.new.seals session.new.unsealed) }
-    ensures text { K.tells → (n : Now) → Stands n session.old.tree session.old.seals session.old.unsealed → OnOk result (K.held out.new ≡ K.held out.old ++ line_of (entry_of (sizes session.old.inodes) n call.now.actor call.now.command)) }
-    ensures sink { K.tells → (n : Now) → Stands n session.old.tree session.old.seals session.old.unsealed → IsErrOf result RunFault.Sink → (is_blocked session.old.inodes (D.known session.old.disk) n call.now.actor call.now.command ≡ false)
-        × ((written : List ℕ) × (K.held out.new ≡ K.held out.old ++ written) × IsFront written (line_of (entry_of (sizes session.old.inodes) n call.now.actor call.now.command))) }
-    ensures sink_cause { IsErrOf result RunFault.Sink → Rose (K.faults out.old) (K.faults out.new) }
-    ensures blocked { (n : Now) → Stands n session.old.tree session.old.seals session.old.unsealed → (line : ℕ) → IsErrOf result (RunFault.NotBuilt line) → (line ≡ call.now.line) × (is_blocked session.old.inodes (D.known session.old.disk) n call.now.actor call.now.command ≡ true) }
-    ensures unwritten { K.tells → (IsErrOf result RunFault.Sink → ⊥) → OnErr result (K.held out.new ≡ K.held out.old) }
-    ensures quiet { OnOk result (session.new.seals ≡ session.old.seals → IsQuiet session.old.number session.new.number session.old.disk session.new.disk) }
-    ensures sealed { OnOk result (session.new.seals ≢ session.old.seals → IsSealed session.old.number session.new.number session.old.seals session.new.seals session.new.unsealed) }
-    ensures shows { D.tells → D.in_doubt session.old.disk ≡ false → OnOk result (session.new.seals ≢ session.old.seals → Shows (D.in_doubt session.new.disk) (D.seen session.new.disk) session.new.number (picture session.new.tree)) }
-    ensures known { D.known session.new.disk ≡ D.known session.old.disk }
-    ensures inodes { session.new.inodes ≡ session.old.inodes }
-    ensures later { D.faults session.old.disk ≤ D.faults session.new.disk }
+/// Writes the line of a reply.
+fn write_reply<K: Sink>(alloc: Global, actor: u8, reply: &Reply, out: &mut K) -> Result<(), Stop>
+    ensures text { K.tells → OnOk result (K.held out.new ≡ K.held out.old ++ reply_line actor reply.now) }
+    ensures sink { K.tells → IsErrOf result Stop.Sink → (said : List ℕ) × (K.held out.new ≡ K.held out.old ++ said) × IsPart said (reply_line actor reply.now) }
+    ensures unwritten { K.tells → IsErrOf result Stop.NoMemory → K.held out.new ≡ K.held out.old }
+    ensures sink_cause { IsErrOf result Stop.Sink → Rose (K.faults out.old) (K.faults out.new) }
+    ensures kinds { IfErr result (λ stop. (stop ≡ Stop.Sink) ⊎ (stop ≡ Stop.NoMemory)) }
     ensures sink_later { K.faults out.old ≤ K.faults out.new }
-    ensures device { IsErrOf result RunFault.Disk → Rose (D.faults session.old.disk) (D.faults session.new.disk) }
 {
-    let reply = match session.step(alloc, &call.command) {
-        Ok(reply) => reply,
-        Err(StepFault::Device) => return Err(RunFault::Disk),
-        Err(StepFault::NoMemory) => return Err(RunFault::NoMemory),
-        Err(StepFault::NotBuilt) => return Err(RunFault::NotBuilt { line: call.line }),
-    };
-    let Ok(line) = reply_text(alloc, call.actor, &reply) else {
-        return Err(RunFault::NoMemory);
+    let Ok(line) = reply_text(alloc, actor, reply) else {
+        return Err(Stop::NoMemory);
     };
     match write_all(out, line.all()) {
         Ok(()) => Ok(()),
-        Err(_) => Err(RunFault::Sink),
+        Err(_) => Err(Stop::Sink),
     }
 }
 
@@ -76,32 +63,35 @@ pub fn perform_all<D: Disk, K: Sink>(
     session: &mut Session<D>,
     calls: &[Call],
     out: &mut K,
-) -> Result<(), RunFault>
+) -> Result<(), Stop>
     requires made { IsMade session.old.tree }
     requires no_seals { session.old.seals ≡ 0 }
     requires none_unsealed { session.old.unsealed ≡ 0 }
-    requires shown { D.tells → Shows (D.in_doubt session.old.disk) (D.seen session.old.disk) session.old.number (picture session.old.tree) }
-    ensures done { OnOk result (stopped session.old.inodes (D.known session.old.disk) (start session.old.tree) calls.now ≡ None) }
-    ensures text { K.tells → OnOk result (K.held out.new ≡ K.held out.old ++ joined (replies session.old.inodes (D.known session.old.disk) (start session.old.tree) calls.now)) }
-    ensures shows { D.tells → OnOk result (Shows (D.in_doubt session.new.disk) (D.seen session.new.disk)
-        (further session.old.number (durable (final_history session.old.inodes (D.known session.old.disk) (start session.old.tree) calls.now)))
-        (picture (tree_at (sizes session.old.inodes) (start session.old.tree) (final_history session.old.inodes (D.known session.old.disk) (start session.old.tree) calls.now) (durable (final_history session.old.inodes (D.known session.old.disk) (start session.old.tree) calls.now))))) }
-    ensures blocked { (line : ℕ) → IsErrOf result (RunFault.NotBuilt line) → (stopped session.old.inodes (D.known session.old.disk) (start session.old.tree) calls.now ≡ Some line)
-        × (K.tells → K.held out.new ≡ K.held out.old ++ joined (replies session.old.inodes (D.known session.old.disk) (start session.old.tree) calls.now)) }
-    ensures sink { IsErrOf result RunFault.Sink → Rose (K.faults out.old) (K.faults out.new)
-        × (K.tells → (written : List ℕ) × (K.held out.new ≡ K.held out.old ++ written) × IsFront written (joined (replies session.old.inodes (D.known session.old.disk) (start session.old.tree) calls.now))) }
-    ensures cut { K.tells → (IsErrOf result RunFault.Sink → ⊥) → OnErr result ((lines : ℕ) × (lines ≤ length (replies session.old.inodes (D.known session.old.disk) (start session.old.tree) calls.now))
-        × (K.held out.new ≡ K.held out.old ++ joined (take lines (replies session.old.inodes (D.known session.old.disk) (start session.old.tree) calls.now)))) }
-    ensures known { D.known session.new.disk ≡ D.known session.old.disk }
-    ensures inodes { session.new.inodes ≡ session.old.inodes }
-    ensures later { D.faults session.old.disk ≤ D.faults session.new.disk }
+    requires working { session.old.volume.failed ≡ false }
+    requires last { is_last (journal_of session.old.volume.half).last session.old.number ≡ true }
+    requires shown { Shows session.old.volume.geometry session.old.volume.half session.old.volume.volume.items session.old.number (picture session.old.tree) }
+    ensures done { OnOk result (stopped_over (image_by session.old.number session.old.tree session.old.volume.geometry session.old.volume.half session.old.volume.volume.items) calls.now ≡ None) }
+    ensures text { K.tells → OnOk result (K.held out.new ≡ K.held out.old ++ joined (replies (image_by session.old.number session.old.tree session.old.volume.geometry session.old.volume.half session.old.volume.volume.items) calls.now)) }
+    ensures shows { OnOk result (Shows session.new.volume.geometry session.new.volume.half session.new.volume.volume.items
+        (further session.old.number (durable (final_history (image_by session.old.number session.old.tree session.old.volume.geometry session.old.volume.half session.old.volume.volume.items) calls.now)))
+        (picture (tree_at (sizes session.old.volume.geometry.inodes) (start session.old.tree) (final_history (image_by session.old.number session.old.tree session.old.volume.geometry session.old.volume.half session.old.volume.volume.items) calls.now) (durable (final_history (image_by session.old.number session.old.tree session.old.volume.geometry session.old.volume.half session.old.volume.volume.items) calls.now))))) }
+    ensures working { OnOk result (session.new.volume.failed ≡ false) }
+    ensures kept { D.tells → OnOk result (Kept D.Disk session.old.volume.disk session.new.volume.disk (image_by session.old.number session.old.tree session.old.volume.geometry session.old.volume.half session.old.volume.volume.items) calls.now (length (replies (image_by session.old.number session.old.tree session.old.volume.geometry session.old.volume.half session.old.volume.volume.items) calls.now))) }
+    ensures halts { D.tells → IfErr result (λ stop. Halts D.Disk session.old.volume.disk session.new.volume.disk calls.now (Holds (image_by session.old.number session.old.tree session.old.volume.geometry session.old.volume.half session.old.volume.volume.items)) (ran (image_by session.old.number session.old.tree session.old.volume.geometry session.old.volume.half session.old.volume.volume.items) calls.now) stop K.tells (K.held out.old) (K.held out.new)) }
+    ensures kinds { IfErr result (λ stop. IsFaultStop stop ⊎ ((line : ℕ) × (stop ≡ Stop.NotBuilt line))) }
+    ensures later { D.faults session.old.volume.disk ≤ D.faults session.new.volume.disk }
     ensures sink_later { K.faults out.old ≤ K.faults out.new }
-    ensures device { IsErrOf result RunFault.Disk → Rose (D.faults session.old.disk) (D.faults session.new.disk) }
+    ensures sink_cause { IsErrOf result Stop.Sink → Rose (K.faults out.old) (K.faults out.new) }
+    ensures device { IsErrOf result Stop.Disk → Rose (D.faults session.old.volume.disk) (D.faults session.new.volume.disk) }
 {
     for call in calls {
-        match perform(alloc, session, call, out) {
+        let reply = match session.step(alloc, &call.command) {
+            Ok(reply) => reply,
+            Err(fault) => return Err(stop_of_step(fault, call.line)),
+        };
+        match write_reply(alloc, call.actor, &reply, out) {
             Ok(()) => {}
-            Err(fault) => return Err(fault),
+            Err(stop) => return Err(stop),
         }
     }
     Ok(())

@@ -1,7 +1,7 @@
 //! The script, read and parsed whole.
-ghost use Rattle.std.specs.Prelude.{◌≡◌, ◌⊎◌, ◌≤◌, ◌<◌, ◌++◌, ℕ, List, true, false, length, Ok, Err, IfOk, IsErrOf};
+ghost use Rattle.std.specs.Prelude.{◌≡◌, ◌⊎◌, ◌≤◌, ◌<◌, ◌++◌, ℕ, List, true, false, length, None, Ok, Err, IfOk, IsErrOf};
 ghost use Rattle.fault_counts.specs.Counts.{Rose};
-ghost use Rattle.script_text.specs.Scripts.{calls_of, is_long};
+ghost use Rattle.script_text.specs.Scripts.{calls_of, first_unbuilt, is_long, IsFirstUnbuilt};
 
 use ccfs_base::Source;
 use script_text::{Call, MOST_BYTES, ScriptFault, parse_script};
@@ -15,9 +15,11 @@ const PIECE: usize = 65_536;
 pub enum ScriptEnd {
     /// The source failed.
     Source,
-    /// The script has more than 16,777,216 bytes or 65,536 lines.
+    /// The script has more than 16,777,216 bytes or 65,536 lines, or its data words stand for too many bytes.
     Long,
-    /// This line, the first such, isn't built.
+    /// This line, the first such, isn't a command.
+    BadLine { line: u32 },
+    /// What this line asks for, the first such, isn't built.
     NotBuilt { line: u32 },
     /// There was no memory.
     NoMemory,
@@ -29,6 +31,7 @@ fn read_script<S: Source>(alloc: Global, script: &mut S) -> Result<Vec<u8>, Scri
     ensures later { S.faults script.old ≤ S.faults script.new }
     ensures source { IsErrOf result ScriptEnd.Source → Rose (S.faults script.old) (S.faults script.new) }
     ensures not_long { IsErrOf result ScriptEnd.Long → ⊥ }
+    ensures not_bad_line { (line : ℕ) → IsErrOf result (ScriptEnd.BadLine line) → ⊥ }
     ensures not_not_built { (line : ℕ) → IsErrOf result (ScriptEnd.NotBuilt line) → ⊥ }
 {
     let mut text = Vec::new(alloc);
@@ -53,9 +56,10 @@ fn read_script<S: Source>(alloc: Global, script: &mut S) -> Result<Vec<u8>, Scri
 
 /// The calls of the script that the source gives.
 pub fn read_calls<S: Source>(alloc: Global, script: &mut S) -> Result<Vec<Call>, ScriptEnd>
-    ensures ok { S.tells → IfOk result (λ calls. (is_long (S.left script.old) ≡ false) × (calls_of (S.left script.old) ≡ Ok calls.items)) }
+    ensures ok { S.tells → IfOk result (λ calls. (is_long (S.left script.old) ≡ false) × (calls_of (S.left script.old) ≡ Ok calls.items) × (first_unbuilt calls.items ≡ None)) }
     ensures long { S.tells → IsErrOf result ScriptEnd.Long → is_long (S.left script.old) ≡ true }
-    ensures not_built { S.tells → (line : ℕ) → IsErrOf result (ScriptEnd.NotBuilt line) → (is_long (S.left script.old) ≡ false) × (calls_of (S.left script.old) ≡ Err line) }
+    ensures bad_line { S.tells → (line : ℕ) → IsErrOf result (ScriptEnd.BadLine line) → (is_long (S.left script.old) ≡ false) × (calls_of (S.left script.old) ≡ Err line) }
+    ensures not_built { S.tells → (line : ℕ) → IsErrOf result (ScriptEnd.NotBuilt line) → (is_long (S.left script.old) ≡ false) × IsFirstUnbuilt (S.left script.old) line }
     ensures later { S.faults script.old ≤ S.faults script.new }
     ensures source { IsErrOf result ScriptEnd.Source → Rose (S.faults script.old) (S.faults script.new) }
 {
@@ -63,6 +67,7 @@ pub fn read_calls<S: Source>(alloc: Global, script: &mut S) -> Result<Vec<Call>,
     match parse_script(alloc, &text) {
         Ok(calls) => Ok(calls),
         Err(ScriptFault::Long) => Err(ScriptEnd::Long),
+        Err(ScriptFault::BadLine { line }) => Err(ScriptEnd::BadLine { line }),
         Err(ScriptFault::NotBuilt { line }) => Err(ScriptEnd::NotBuilt { line }),
         Err(ScriptFault::NoMemory) => Err(ScriptEnd::NoMemory),
     }

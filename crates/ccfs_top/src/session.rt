@@ -1,24 +1,30 @@
-//! A file system in use: the tree, and the disk that holds the picture of what is durable.
+//! A file system in use: the tree, and the volume that holds the picture of what is durable.
 ghost use Rattle.std.specs.Prelude.{◌≡◌, ◌≢◌, ◌≤◌, ◌<◌, ◌+◌, ◌-◌, ◌^◌, ◌++◌, ℕ, List, true, false, IsTrue, length, IfOk, IfErr, OnOk, IsErrOf, IsErr, Ok, Err, None, Some};
 ghost use Rattle.std.specs.FinMap.{len};
 ghost use Rattle.fault_counts.specs.Counts.{Rose};
 ghost use Rattle.tree_model.specs.Updates.{apply};
 ghost use Rattle.tree_model.specs.Tests.{applies};
+ghost use Rattle.tree_model.specs.declared.picturing.Item.{Item};
 ghost use Rattle.tree_model.specs.Picture.{picture};
 ghost use Rattle.history_model.specs.Answers.{make};
 ghost use Rattle.history_model.specs.State.{Now};
 ghost use Rattle.plain_image.specs.Plain.{plain_bytes, plain_of};
-ghost use Rattle.script_text.specs.Texts.{is_printed};
+ghost use Rattle.gate_journal.specs.Halves.{journal_of};
+ghost use Rattle.gate_journal.specs.Runs.{LeavesBy};
+ghost use Rattle.recovery.specs.Pictures.{is_last};
+ghost use Rattle.recovery.specs.Shown.{picture_batch};
 ghost use Rattle.ccfs_top.specs.Made.{IsMade};
 ghost use Rattle.ccfs_top.specs.Runs.{further};
-ghost use Rattle.ccfs_top.specs.Stages.{sizes, is_blocked};
-ghost use Rattle.ccfs_top.specs.Sessions.{Stands, Answered, Shows, IsQuiet, IsSealed, make_command, serial_of, name_of};
+ghost use Rattle.ccfs_top.specs.Stages.{sizes, is_blocked, may_commit, with_picture, commits, room_in};
+ghost use Rattle.ccfs_top.specs.Sessions.{Stands, Answered, Shows, IsQuiet, IsSealed, EitherShown, make_command, serial_of, name_of};
 ghost use Rattle.ccfs_base.specs.Names.{is_name};
 ghost use Rattle.ccfs_base.specs.declared.commands.Command.TheVariants as command;
 ghost use Rattle.ccfs_base.specs.declared.replies.Reply.TheVariants as reply;
 
-use ccfs_base::{Bytes, Command, Path, Refusal, Reply};
+use atomic_volume::{Volume, VolumeFault};
+use ccfs_base::{Command, Path, Refusal, Reply};
 use disk_model::Disk;
+use gate_journal::{Batch, Range, Ranges};
 use plain_image::write_picture;
 use std::alloc::Global;
 use tree_model::{Tree, Update};
@@ -39,11 +45,11 @@ pub enum StepFault {
 
 /// A file system in use.
 pub struct Session<D: Disk> {
-    pub disk: D,
+    /// The volume that holds the picture of what is durable, on the disk. Its geometry tells the number of inodes; the tree
+    /// may have one row fewer, since one inode is set aside.
+    pub volume: Volume<D>,
     pub tree: Tree,
-    /// The number of inodes of the image. The tree may have one row fewer, since one inode is set aside.
-    pub inodes: u32,
-    /// The number of the picture on the disk.
+    /// The number of the picture in the volume.
     pub number: u64,
     /// The number of seals since the session was opened.
     pub seals: u64,
@@ -84,38 +90,23 @@ fn make_update(tree: &Tree, inodes: u32, path: &Path, is_dir: bool) -> Result<Up
     })
 }
 
-/// The picture of a tree with a number, as it stands on a disk.
-fn picture_bytes(alloc: Global, tree: &Tree, number: u64) -> Result<Bytes, StepFault>
+/// The batch that commits the picture of a tree with a number.
+fn picture_batch(alloc: Global, tree: &Tree, number: u64) -> Result<Batch, StepFault>
     requires { IsMade tree.now }
-    ensures bytes { IfOk result (λ bytes. bytes ≡ plain_bytes number (picture tree.now)) }
-    ensures read { IfOk result (λ bytes. (rest : List ℕ) → plain_of (bytes ++ rest) ≡ Some (number, picture tree.now)) }
+    ensures batch { IfOk result (λ batch. batch ≡ picture_batch number (picture tree.now)) }
+    ensures read { OnOk result ((rest : List ℕ) → plain_of (plain_bytes number (picture tree.now) ++ rest) ≡ Some (number, picture tree.now)) }
     ensures only_memory { IsErr result → result ≡ Err StepFault.NoMemory }
 {
     let Ok(picture) = tree.picture(alloc) else {
         return Err(StepFault::NoMemory);
     };
-    match write_picture(alloc, number, picture.all()) {
-        Ok(bytes) => Ok(bytes),
+    let Ok(bytes) = write_picture(alloc, number, picture.all()) else {
+        return Err(StepFault::NoMemory);
+    };
+    let mut ranges = Ranges::new(alloc);
+    match ranges.push(Range { off: 0, bytes }) {
+        Ok(()) => Ok(Batch { number, ranges }),
         Err(_) => Err(StepFault::NoMemory),
-    }
-}
-
-/// Puts bytes at the front of the disk, and makes them stable.
-fn put_at_front<D: Disk>(disk: &mut D, bytes: &[u8]) -> Result<(), StepFault>
-    requires { length bytes.now ≤ D.known disk.old }
-    ensures seen { D.tells → D.in_doubt disk.old ≡ false → OnOk result ((rest : List ℕ) × (D.seen disk.new ≡ bytes.now ++ rest)) }
-    ensures settled { D.tells → OnOk result (D.in_doubt disk.new ≡ false) }
-    ensures known { D.known disk.new ≡ D.known disk.old }
-    ensures later { D.faults disk.old ≤ D.faults disk.new }
-    ensures device { IsErr result → Rose (D.faults disk.old) (D.faults disk.new) }
-    ensures only_device { IsErr result → result ≡ Err StepFault.Device }
-{
-    if disk.write_at(0, bytes).is_err() {
-        return Err(StepFault::Device);
-    }
-    match disk.sync() {
-        Ok(()) => Ok(()),
-        Err(_) => Err(StepFault::Device),
     }
 }
 
@@ -123,16 +114,15 @@ impl<D: Disk> Session<D> {
     /// Performs mkdir or create.
     fn make(&mut self, path: &Path, is_dir: bool) -> Result<Reply, StepFault>
         requires { IsMade self.old.tree }
-        ensures ok { (n : Now) (size actor : ℕ) → Stands n self.old.tree self.old.seals self.old.unsealed → IfOk result (λ answer. Answered self.old.inodes size n actor (make_command is_dir path.now) answer self.new.tree self.new.seals self.new.unsealed) }
-        ensures blocked { (n : Now) (size actor : ℕ) → Stands n self.old.tree self.old.seals self.old.unsealed → IsErrOf result StepFault.NotBuilt → is_blocked self.old.inodes size n actor (make_command is_dir path.now) ≡ true }
-        ensures printed { IfOk result (λ answer. IsTrue (is_printed answer)) }
-        ensures disk { self.new.disk ≡ self.old.disk }
-        ensures inodes { self.new.inodes ≡ self.old.inodes }
+        ensures ok { (n : Now) (actor : ℕ) → Stands n self.old.tree self.old.seals self.old.unsealed → IfOk result (λ answer. Answered self.old.volume.geometry.inodes (length self.old.volume.volume.items) (room_in (journal_of self.old.volume.half)) n actor (make_command is_dir path.now) answer self.new.tree self.new.seals self.new.unsealed (room_in (journal_of self.new.volume.half))) }
+        ensures blocked { (n : Now) (actor : ℕ) → Stands n self.old.tree self.old.seals self.old.unsealed → IsErrOf result StepFault.NotBuilt → is_blocked self.old.volume.geometry.inodes (length self.old.volume.volume.items) (room_in (journal_of self.old.volume.half)) n actor (make_command is_dir path.now) ≡ true }
+        ensures volume { self.new.volume ≡ self.old.volume }
         ensures number { self.new.number ≡ self.old.number }
         ensures seals { self.new.seals ≡ self.old.seals }
         ensures no_device { IsErrOf result StepFault.Device → ⊥ }
     {
-        let update = match make_update(&self.tree, self.inodes, path, is_dir) {
+        let inodes = self.volume.geometry().inodes;
+        let update = match make_update(&self.tree, inodes, path, is_dir) {
             Ok(update) => update,
             Err(cause) => return Ok(Reply::Refused(cause)),
         };
@@ -148,56 +138,93 @@ impl<D: Disk> Session<D> {
         }
     }
 
-    /// Writes the picture of the tree, where something is unsealed.
+    /// Commits the picture of the tree, under the number behind the last.
+    fn commit(&mut self, alloc: Global) -> Result<(), StepFault>
+        requires made { IsMade self.old.tree }
+        requires working { self.old.volume.failed ≡ false }
+        requires last { is_last (journal_of self.old.volume.half).last self.old.number ≡ true }
+        ensures tree { self.new.tree ≡ self.old.tree }
+        ensures seals { self.new.seals ≡ self.old.seals }
+        ensures unsealed { self.new.unsealed ≡ self.old.unsealed }
+        ensures number { OnOk result (self.new.number ≡ further self.old.number 1) }
+        ensures accepted { OnOk result (may_commit (length self.old.volume.volume.items) (room_in (journal_of self.old.volume.half)) self.old.tree ≡ true) }
+        ensures blocked { IsErrOf result StepFault.NotBuilt → may_commit (length self.old.volume.volume.items) (room_in (journal_of self.old.volume.half)) self.old.tree ≡ false }
+        ensures room { OnOk result (room_in (journal_of self.new.volume.half) ≡ with_picture (room_in (journal_of self.old.volume.half)) self.old.tree) }
+        ensures shows { OnOk result (Shows self.new.volume.geometry self.new.volume.half self.new.volume.volume.items self.new.number (picture self.old.tree)) }
+        ensures last { OnOk result (is_last (journal_of self.new.volume.half).last self.new.number ≡ true) }
+        ensures working { OnOk result (self.new.volume.failed ≡ false) }
+        ensures geometry { self.new.volume.geometry ≡ self.old.volume.geometry }
+        ensures size { length self.new.volume.volume.items ≡ length self.old.volume.volume.items }
+        ensures moments { D.tells → (items : List Item) → Shows self.old.volume.geometry self.old.volume.half self.old.volume.volume.items self.old.number items → LeavesBy D.Disk self.old.volume.disk self.new.volume.disk (EitherShown true (self.old.number, items) (further self.old.number 1, picture self.old.tree)) }
+        ensures later { D.faults self.old.volume.disk ≤ D.faults self.new.volume.disk }
+        ensures device { IsErrOf result StepFault.Device → Rose (D.faults self.old.volume.disk) (D.faults self.new.volume.disk) }
+    {
+        let number = self.number.wrapping_add(1);
+        let batch = picture_batch(alloc, &self.tree, number)?;
+        if !self.volume.accepts(&batch) {
+            return Err(StepFault::NotBuilt);
+        }
+        match self.volume.commit(&batch) {
+            Ok(()) => {
+                self.number = number;
+                Ok(())
+            }
+            Err(VolumeFault::NoMemory) => Err(StepFault::NoMemory),
+            Err(_) => Err(StepFault::Device),
+        }
+    }
+
+    /// Makes durable what is unsealed, if anything is.
     fn sync(&mut self, alloc: Global) -> Result<Reply, StepFault>
         requires made { IsMade self.old.tree }
+        requires working { self.old.volume.failed ≡ false }
+        requires last { is_last (journal_of self.old.volume.half).last self.old.number ≡ true }
         requires room { self.old.seals < 2 ^ 64 - 1 }
-        ensures ok { (n : Now) (actor : ℕ) → Stands n self.old.tree self.old.seals self.old.unsealed → IfOk result (λ answer. Answered self.old.inodes (D.known self.old.disk) n actor command.StreamSync answer self.new.tree self.new.seals self.new.unsealed) }
-        ensures blocked { (n : Now) (actor : ℕ) → Stands n self.old.tree self.old.seals self.old.unsealed → IsErrOf result StepFault.NotBuilt → is_blocked self.old.inodes (D.known self.old.disk) n actor command.StreamSync ≡ true }
-        ensures printed { IfOk result (λ answer. IsTrue (is_printed answer)) }
-        ensures quiet { OnOk result (self.new.seals ≡ self.old.seals → IsQuiet self.old.number self.new.number self.old.disk self.new.disk) }
+        ensures ok { (n : Now) (actor : ℕ) → Stands n self.old.tree self.old.seals self.old.unsealed → IfOk result (λ answer. Answered self.old.volume.geometry.inodes (length self.old.volume.volume.items) (room_in (journal_of self.old.volume.half)) n actor command.StreamSync answer self.new.tree self.new.seals self.new.unsealed (room_in (journal_of self.new.volume.half))) }
+        ensures blocked { (n : Now) (actor : ℕ) → Stands n self.old.tree self.old.seals self.old.unsealed → IsErrOf result StepFault.NotBuilt → is_blocked self.old.volume.geometry.inodes (length self.old.volume.volume.items) (room_in (journal_of self.old.volume.half)) n actor command.StreamSync ≡ true }
+        ensures quiet { OnOk result (self.new.seals ≡ self.old.seals → IsQuiet self.old.number self.new.number self.old.volume self.new.volume) }
         ensures sealed { OnOk result (self.new.seals ≢ self.old.seals → IsSealed self.old.number self.new.number self.old.seals self.new.seals self.new.unsealed) }
-        ensures shows { D.tells → D.in_doubt self.old.disk ≡ false → OnOk result (self.new.seals ≢ self.old.seals → Shows (D.in_doubt self.new.disk) (D.seen self.new.disk) self.new.number (picture self.new.tree)) }
-        ensures known { D.known self.new.disk ≡ D.known self.old.disk }
-        ensures inodes { self.new.inodes ≡ self.old.inodes }
-        ensures later { D.faults self.old.disk ≤ D.faults self.new.disk }
-        ensures device { IsErrOf result StepFault.Device → Rose (D.faults self.old.disk) (D.faults self.new.disk) }
+        ensures shows { OnOk result (self.new.seals ≢ self.old.seals → Shows self.new.volume.geometry self.new.volume.half self.new.volume.volume.items self.new.number (picture self.new.tree)) }
+        ensures last { OnOk result (is_last (journal_of self.new.volume.half).last self.new.number ≡ true) }
+        ensures working { OnOk result (self.new.volume.failed ≡ false) }
+        ensures geometry { self.new.volume.geometry ≡ self.old.volume.geometry }
+        ensures size { length self.new.volume.volume.items ≡ length self.old.volume.volume.items }
+        ensures moments { D.tells → (n : Now) (actor : ℕ) (items : List Item) → Stands n self.old.tree self.old.seals self.old.unsealed → Shows self.old.volume.geometry self.old.volume.half self.old.volume.volume.items self.old.number items
+            → LeavesBy D.Disk self.old.volume.disk self.new.volume.disk (EitherShown (commits n actor command.StreamSync) (self.old.number, items) (further self.old.number 1, picture self.old.tree)) }
+        ensures later { D.faults self.old.volume.disk ≤ D.faults self.new.volume.disk }
+        ensures device { IsErrOf result StepFault.Device → Rose (D.faults self.old.volume.disk) (D.faults self.new.volume.disk) }
     {
         if self.unsealed == 0 {
             return Ok(Reply::Synced { seals: self.seals });
         }
-        let number = self.number.wrapping_add(1);
-        let bytes = match picture_bytes(alloc, &self.tree, number) {
-            Ok(bytes) => bytes,
-            Err(fault) => return Err(fault),
-        };
-        if bytes.len() as u64 > self.disk.known_size() {
-            return Err(StepFault::NotBuilt);
-        }
-        match put_at_front(&mut self.disk, bytes.all()) {
-            Ok(()) => {}
-            Err(fault) => return Err(fault),
-        }
-        self.number = number;
+        self.commit(alloc)?;
         self.seals += 1;
         self.unsealed = 0;
         Ok(Reply::Synced { seals: self.seals })
     }
 
     /// Performs a command, and answers its reply.
+    ///
+    /// At every moment a crash leaves an image with the picture of before, or, where the command is a sync of something
+    /// unsealed, with that of the tree. `Device` comes only where the disk's faults rose, and the volume has failed after it.
     pub fn step(&mut self, alloc: Global, command: &Command) -> Result<Reply, StepFault>
         requires made { IsMade self.old.tree }
+        requires working { self.old.volume.failed ≡ false }
+        requires last { is_last (journal_of self.old.volume.half).last self.old.number ≡ true }
         requires room { self.old.seals < 2 ^ 64 - 1 }
-        ensures ok { (n : Now) (actor : ℕ) → Stands n self.old.tree self.old.seals self.old.unsealed → IfOk result (λ answer. Answered self.old.inodes (D.known self.old.disk) n actor command.now answer self.new.tree self.new.seals self.new.unsealed) }
-        ensures blocked { (n : Now) (actor : ℕ) → Stands n self.old.tree self.old.seals self.old.unsealed → IsErrOf result StepFault.NotBuilt → is_blocked self.old.inodes (D.known self.old.disk) n actor command.now ≡ true }
-        ensures printed { IfOk result (λ answer. IsTrue (is_printed answer)) }
-        ensures quiet { OnOk result (self.new.seals ≡ self.old.seals → IsQuiet self.old.number self.new.number self.old.disk self.new.disk) }
+        ensures ok { (n : Now) (actor : ℕ) → Stands n self.old.tree self.old.seals self.old.unsealed → IfOk result (λ answer. Answered self.old.volume.geometry.inodes (length self.old.volume.volume.items) (room_in (journal_of self.old.volume.half)) n actor command.now answer self.new.tree self.new.seals self.new.unsealed (room_in (journal_of self.new.volume.half))) }
+        ensures blocked { (n : Now) (actor : ℕ) → Stands n self.old.tree self.old.seals self.old.unsealed → IsErrOf result StepFault.NotBuilt → is_blocked self.old.volume.geometry.inodes (length self.old.volume.volume.items) (room_in (journal_of self.old.volume.half)) n actor command.now ≡ true }
+        ensures quiet { OnOk result (self.new.seals ≡ self.old.seals → IsQuiet self.old.number self.new.number self.old.volume self.new.volume) }
         ensures sealed { OnOk result (self.new.seals ≢ self.old.seals → IsSealed self.old.number self.new.number self.old.seals self.new.seals self.new.unsealed) }
-        ensures shows { D.tells → D.in_doubt self.old.disk ≡ false → OnOk result (self.new.seals ≢ self.old.seals → Shows (D.in_doubt self.new.disk) (D.seen self.new.disk) self.new.number (picture self.new.tree)) }
-        ensures known { D.known self.new.disk ≡ D.known self.old.disk }
-        ensures inodes { self.new.inodes ≡ self.old.inodes }
-        ensures later { D.faults self.old.disk ≤ D.faults self.new.disk }
-        ensures device { IsErrOf result StepFault.Device → Rose (D.faults self.old.disk) (D.faults self.new.disk) }
+        ensures shows { OnOk result (self.new.seals ≢ self.old.seals → Shows self.new.volume.geometry self.new.volume.half self.new.volume.volume.items self.new.number (picture self.new.tree)) }
+        ensures last { OnOk result (is_last (journal_of self.new.volume.half).last self.new.number ≡ true) }
+        ensures working { OnOk result (self.new.volume.failed ≡ false) }
+        ensures geometry { self.new.volume.geometry ≡ self.old.volume.geometry }
+        ensures size { length self.new.volume.volume.items ≡ length self.old.volume.volume.items }
+        ensures moments { D.tells → (n : Now) (actor : ℕ) (items : List Item) → Stands n self.old.tree self.old.seals self.old.unsealed → Shows self.old.volume.geometry self.old.volume.half self.old.volume.volume.items self.old.number items
+            → LeavesBy D.Disk self.old.volume.disk self.new.volume.disk (EitherShown (commits n actor command.now) (self.old.number, items) (further self.old.number 1, picture self.old.tree)) }
+        ensures later { D.faults self.old.volume.disk ≤ D.faults self.new.volume.disk }
+        ensures device { IsErrOf result StepFault.Device → Rose (D.faults self.old.volume.disk) (D.faults self.new.volume.disk) }
     {
         match command {
             Command::Mkdir { path } => self.make(path, true),
@@ -209,16 +236,15 @@ impl<D: Disk> Session<D> {
 
     /// Hands the disk back.
     pub fn end(self) -> D
-        ensures { result ≡ self.disk }
+        ensures { result ≡ self.volume.disk }
     {
         let Session {
-            disk,
+            volume,
             tree: _,
-            inodes: _,
             number: _,
             seals: _,
             unsealed: _,
         } = self;
-        disk
+        volume.end()
     }
 }

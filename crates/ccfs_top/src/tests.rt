@@ -1,70 +1,101 @@
-//! Runs of scripts on disks in memory, by their exact output.
+//! Calls of the program on disks in memory, by their exact output.
+use super::trials::{FIRST, FIRST_TEXT, FRESH_TREE, call, fresh, run};
 use super::*;
 use ccfs_base::{Bytes, MemSink, MemSource, NoMemory};
 use disk_model::{CallKind, Disk, FailPlan, MemDisk};
 use std::alloc::Global;
 use std::test::Fail;
 
-/// A directory, a file in it, and both made durable.
-const FIRST: &[u8] = b"0 mkdir /a\n0 create /a/f\n0 streamsync\n";
-
-/// The output of that script on a blank disk.
-const FIRST_TEXT: &[u8] =
-    b"0 ok\n0 ok\n0 ok 1\nbatches 1\ndir / entries 1 changes 1\ndir /a entries 1 changes 1\nfile /a/f length 0 data -\n";
-
-/// The picture of its tree, with the number 1.
-const FIRST_BYTES: [u8; 56] = [
-    1, 0, 0, 0, 0, 0, 0, 0, 3, 0, 0, 0, // the number and the count of items
-    0, 0, 0, 0, 1, 1, 0, 0, 0, 0, 0, 0, 0, 0, // the root
-    1, 0, 0, 0, 1, 1, 0, 0, 0, 0, 0, 0, 0, 1, 97, // a
-    2, 0, 0, 0, 2, 0, 0, 0, 0, 0, 0, 0, 0, 1, 102, // f
-];
-
-/// The words of a run.
-fn run_words(alloc: Global) -> Result<Vec<String>, NoMemory> {
-    let mut words = Vec::new(alloc);
-    for word in ["ccfs", "run", "disk.img", "first.ccfs"] {
-        words.push(String::from_str(alloc, word)?)?;
-    }
-    Ok(words)
-}
-
-/// A run of a script on a disk, with a sink.
-fn run(
-    alloc: Global,
-    disk: MemDisk,
-    script: &[u8],
-    out: &mut MemSink,
-) -> Result<Ended<MemDisk>, NoMemory> {
-    let words = run_words(alloc)?;
-    let mut source = MemSource::in_pieces(Bytes::of(alloc, script)?, 1, None);
-    Ok(shell(alloc, &words, disk, &mut source, out))
-}
-
-/// The status of a run on a blank disk of 4,096 bytes, and what it wrote.
-fn run_blank(alloc: Global, plan: FailPlan, script: &[u8]) -> Result<(u8, MemSink), NoMemory> {
-    let mut disk = MemDisk::new(alloc, 4096)?;
+/// The status of a run on a fresh image with this plan, and what it wrote byte by byte.
+fn run_fresh(alloc: Global, plan: FailPlan, script: &[u8]) -> Result<(u8, MemSink), NoMemory> {
+    let mut disk = fresh(alloc)?;
     disk.plan(plan);
     let mut out = MemSink::in_pieces(alloc, 1, None);
     let ended = run(alloc, disk, script, &mut out)?;
     Ok((ended.status, out))
 }
 
+/// The status of `tree` on a disk, and what it wrote.
+fn print(alloc: Global, disk: MemDisk) -> Result<(u8, MemSink), NoMemory> {
+    let mut out = MemSink::new(alloc, None);
+    let ended = call(alloc, &["ccfs", "tree", "A"], disk, b"", &mut out)?;
+    Ok((ended.status, out))
+}
+
+/// A fresh image in which these places have these bytes.
+fn spoilt(alloc: Global, places: &[(u64, u8)]) -> Result<MemDisk, Fail> {
+    let mut disk = fresh(alloc)?;
+    for (place, byte) in places {
+        if *place >= disk.known_size() {
+            return Err("the place is behind the end".into());
+        }
+        disk.write_at(*place, &[*byte])?;
+    }
+    Ok(disk)
+}
+
 #[test]
-fn an_empty_script_prints_the_blank_tree(rt: HostRuntime) -> Result<(), Fail> {
-    let (status, out) = run_blank(rt.alloc(), FailPlan::Never, b"")?;
+fn words_that_match_no_row_get_the_usage_line(rt: HostRuntime) -> Result<(), Fail> {
+    for words in [
+        ["ccfs", "run", "A"].as_slice(),
+        &["ccfs", "mkfs", "A", "511", "32"],
+        &["ccfs", "mkfs", "A", "512", "33"],
+        &["ccfs", "mkfs", "A", "512", "1984"],
+        &["ccfs", "mkfs", "A", "512", "4294967328"],
+        &["ccfs", "mkfs", "A", "512", "000000000000000000032"],
+        &["ccfs", "mkfs", "A", "512"],
+        &["ccfs", "check", "A"],
+        &["ccfs"],
+        &[],
+    ] {
+        let mut out = MemSink::new(rt.alloc(), None);
+        let disk = MemDisk::new(rt.alloc(), 0)?;
+        let ended = call(rt.alloc(), words, disk, FIRST, &mut out)?;
+        assert_eq!(rt; (ended.status, ended.disk.calls()), (2, 0));
+        assert_eq!(rt;
+            out.held(),
+            b"usage: ccfs mkfs IMAGE BLOCKS INODES | run IMAGE SCRIPT | race IMAGE SCRIPT | tree IMAGE | check IMAGE | demo IMAGE START COUNT | crash BLOCKS SCRIPT CALL PICK\n".as_slice()
+        );
+    }
+    Ok(())
+}
+
+#[test]
+fn an_image_is_made_and_its_tree_printed(rt: HostRuntime) -> Result<(), Fail> {
+    for inodes in ["32", "00000000000000000032"] {
+        let mut out = MemSink::in_pieces(rt.alloc(), 1, None);
+        let disk = MemDisk::new(rt.alloc(), 100)?;
+        let words = ["ccfs", "mkfs", "A", "512", inodes];
+        let mut made = call(rt.alloc(), &words, disk, b"", &mut out)?;
+        assert_eq!(rt; made.status, 0);
+        assert_eq!(rt;
+            out.held(),
+            b"made 512 blocks 32 inodes 246 data blocks\n".as_slice()
+        );
+        let mut front = [0; 36];
+        assert!(rt; made.disk.known_size() == 512 * 4096);
+        assert!(rt; made.disk.read_at(0, &mut front).is_ok());
+        assert!(rt; &front[..20] == b"CCFSOWN1\x01\0\0\0\0\x02\0\0\x20\0\0\0".as_slice());
+        assert!(rt; &front[20..] == b"\x04\x01\0\0\x07\x01\0\0\x09\x01\0\0\x0a\x01\0\0".as_slice());
+        let (status, out) = print(rt.alloc(), made.disk)?;
+        assert_eq!(rt; status, 0);
+        assert_eq!(rt; out.held(), FRESH_TREE);
+    }
+    Ok(())
+}
+
+#[test]
+fn an_empty_script_prints_the_fresh_tree(rt: HostRuntime) -> Result<(), Fail> {
+    let (status, out) = run_fresh(rt.alloc(), FailPlan::Never, b"")?;
     assert_eq!(rt; status, 0);
-    assert_eq!(rt;
-        out.held(),
-        b"batches 0\ndir / entries 0 changes 0\n".as_slice()
-    );
+    assert_eq!(rt; out.held(), FRESH_TREE);
     Ok(())
 }
 
 #[test]
 fn the_tree_lacks_what_was_not_synced(rt: HostRuntime) -> Result<(), Fail> {
     let script = b"# no last end\r\n\r\n\t 007  mkdir /a \r\n0 create /a/f";
-    let (status, out) = run_blank(rt.alloc(), FailPlan::Never, script)?;
+    let (status, out) = run_fresh(rt.alloc(), FailPlan::Never, script)?;
     assert_eq!(rt; status, 0);
     assert_eq!(rt;
         out.held(),
@@ -74,39 +105,94 @@ fn the_tree_lacks_what_was_not_synced(rt: HostRuntime) -> Result<(), Fail> {
 }
 
 #[test]
-fn a_synced_tree_stands_on_the_disk_and_is_opened_again(rt: HostRuntime) -> Result<(), Fail> {
+fn a_synced_tree_is_printed_and_opened_again(rt: HostRuntime) -> Result<(), Fail> {
     let mut out = MemSink::in_pieces(rt.alloc(), 1, None);
-    let disk = MemDisk::new(rt.alloc(), 4096)?;
-    let mut ended = run(rt.alloc(), disk, FIRST, &mut out)?;
+    let ended = run(rt.alloc(), fresh(rt.alloc())?, FIRST, &mut out)?;
     assert_eq!(rt; (ended.status, ended.batches), (0, 1));
     assert_eq!(rt; out.held(), FIRST_TEXT);
-    let mut front = [0; 56];
-    assert!(rt; ended.disk.known_size() == 4096);
-    assert!(rt; ended.disk.read_at(0, &mut front).is_ok());
-    assert!(rt; front == FIRST_BYTES);
     let mut again = MemSink::new(rt.alloc(), None);
-    let script = b"3 mkdir /a\n3 create /b/c\n3 create /a/f/g\n3 streamsync\n";
+    let script =
+        b"3 mkdir /a\n3 create /b/c\n3 create /a/f/g\n3 streamsync\n3 create /b\n3 streamsync\n";
     let ended = run(rt.alloc(), ended.disk, script, &mut again)?;
-    assert_eq!(rt; (ended.status, ended.batches), (0, 1));
+    assert_eq!(rt; (ended.status, ended.batches), (0, 2));
     assert_eq!(rt;
         again.held(),
-        b"3 refused Exists\n3 refused NoEntry\n3 refused NotDir\n3 ok 0\nbatches 1\ndir / entries 1 changes 1\ndir /a entries 1 changes 1\nfile /a/f length 0 data -\n".as_slice()
+        b"3 refused Exists\n3 refused NoEntry\n3 refused NotDir\n3 ok 0\n3 ok\n3 ok 1\nbatches 2\ndir / entries 2 changes 2\ndir /a entries 1 changes 1\nfile /a/f length 0 data -\nfile /b length 0 data -\n".as_slice()
     );
     Ok(())
 }
 
 #[test]
-fn what_is_not_built_ends_a_run_with_1(rt: HostRuntime) -> Result<(), Fail> {
+fn the_inodes_of_the_image_bound_its_rows(rt: HostRuntime) -> Result<(), Fail> {
+    let mut script = Bytes::new(rt.alloc());
+    for name in 0..31u8 {
+        script.append(b"0 create /")?;
+        script.push(b'A' + name)?;
+        script.push(b'\n')?;
+    }
+    let (status, out) = run_fresh(rt.alloc(), FailPlan::Never, script.all())?;
+    assert_eq!(rt; status, 0);
+    assert_eq!(rt; out.held().len(), 30 * 5 + 18 + 36);
+    assert!(rt;
+        out.held().ends_with(b"0 ok\n0 refused NoInode\nbatches 0\ndir / entries 0 changes 0\n")
+    );
+    Ok(())
+}
+
+#[test]
+fn a_line_that_is_no_command_ends_a_run_with_3(rt: HostRuntime) -> Result<(), Fail> {
+    for script in [
+        b"0 mkdir /a\n0 create a\n".as_slice(),
+        b"0 unlink /a\n64 mkdir /a\n",
+        b"# 1\n0 write /a 0 0\n0 mkdir a\n",
+    ] {
+        let mut out = MemSink::new(rt.alloc(), None);
+        let ended = run(rt.alloc(), fresh(rt.alloc())?, script, &mut out)?;
+        assert_eq!(rt; (ended.status, ended.disk.calls()), (3, 0));
+        assert_eq!(rt; out.held(), b"script line 2 is not a command\n".as_slice());
+    }
+    Ok(())
+}
+
+#[test]
+fn a_command_that_is_not_built_ends_a_run_with_1(rt: HostRuntime) -> Result<(), Fail> {
     let mut out = MemSink::new(rt.alloc(), None);
-    let disk = MemDisk::new(rt.alloc(), 4096)?;
-    let ended = run(rt.alloc(), disk, b"0 mkdir /a\n0 create a\n", &mut out)?;
+    let script = b"0 mkdir /a\n0 write /a/f 0 11*65536+\n";
+    let ended = run(rt.alloc(), fresh(rt.alloc())?, script, &mut out)?;
+    assert_eq!(rt; ended.status, 3);
+    let mut out = MemSink::new(rt.alloc(), None);
+    let script = b"0 mkdir /a\n0 write /a/f 0 11*65536\n0 sync\n";
+    let ended = run(rt.alloc(), fresh(rt.alloc())?, script, &mut out)?;
     assert_eq!(rt; (ended.status, ended.disk.calls()), (1, 0));
     assert_eq!(rt; out.held(), b"line 2 not built\n".as_slice());
-    let mut out = MemSink::new(rt.alloc(), None);
-    let disk = MemDisk::new(rt.alloc(), 40)?;
-    let ended = run(rt.alloc(), disk, FIRST, &mut out)?;
-    assert_eq!(rt; ended.status, 1);
-    assert_eq!(rt; out.held(), b"0 ok\n0 ok\nline 3 not built\n".as_slice());
+    Ok(())
+}
+
+#[test]
+fn a_bad_image_is_told_by_its_first_failing_check(rt: HostRuntime) -> Result<(), Fail> {
+    let super_spoilt = spoilt(rt.alloc(), &[(0, 0)])?;
+    let half_1 = spoilt(rt.alloc(), &[(4096, 0xA5)])?;
+    let journal_spoilt = spoilt(rt.alloc(), &[(2 * 4096, 0xA5), (4 * 4096 + 8, 1)])?;
+    let plain_spoilt = spoilt(rt.alloc(), &[(260 * 4096 + 8, 1)])?;
+    for (mut disk, line) in [
+        (
+            MemDisk::new(rt.alloc(), 100)?,
+            b"bad image Size block 0\n".as_slice(),
+        ),
+        (super_spoilt, b"bad image Super block 0\n"),
+        (half_1, b"bad image Journal block 1\n"),
+        (journal_spoilt, b"bad image Journal block 4\n"),
+        (plain_spoilt, b"bad image Plain block 260\n"),
+    ] {
+        disk.sync()?;
+        let (status, out) = print(rt.alloc(), disk.image(rt.alloc(), 0)?)?;
+        assert_eq!(rt; status, 8);
+        assert_eq!(rt; out.held(), line);
+        let mut out = MemSink::new(rt.alloc(), None);
+        let ended = run(rt.alloc(), disk, FIRST, &mut out)?;
+        assert_eq!(rt; ended.status, 8);
+        assert_eq!(rt; out.held(), line);
+    }
     Ok(())
 }
 
@@ -120,10 +206,56 @@ fn the_513th_row_since_a_sync_is_not_built(rt: HostRuntime) -> Result<(), Fail> 
         }
         script.append(if place < 512 { b"\n" } else { b"x\n" })?;
     }
-    let (status, out) = run_blank(rt.alloc(), FailPlan::Never, script.all())?;
-    assert_eq!(rt; status, 1);
+    let mut out = MemSink::new(rt.alloc(), None);
+    let words = ["ccfs", "mkfs", "A", "512", "1024"];
+    let made = call(
+        rt.alloc(),
+        &words,
+        MemDisk::new(rt.alloc(), 0)?,
+        b"",
+        &mut out,
+    )?;
+    let mut out = MemSink::in_pieces(rt.alloc(), 1, None);
+    let ended = run(rt.alloc(), made.disk, script.all(), &mut out)?;
+    assert_eq!(rt; ended.status, 1);
     assert_eq!(rt; out.held().len(), 512 * 5 + 19);
     assert!(rt; out.held().ends_with(b"0 ok\nline 513 not built\n"));
+    Ok(())
+}
+
+#[test]
+fn a_sync_that_does_not_fit_the_journal_is_not_built(rt: HostRuntime) -> Result<(), Fail> {
+    // With n names of 64 bytes a batch has 54 + 78 n bytes: 114 of them have 517,446, and 115 more than 524,288.
+    let mut script = Bytes::new(rt.alloc());
+    for place in 0..120u8 {
+        script.append(b"0 create /")?;
+        script.push(b'a' + place / 16)?;
+        script.push(b'a' + place % 16)?;
+        script.append(&[b'x'; 62])?;
+        script.append(b"\n0 streamsync\n")?;
+    }
+    let mut out = MemSink::new(rt.alloc(), None);
+    let words = ["ccfs", "mkfs", "A", "512", "128"];
+    let made = call(
+        rt.alloc(),
+        &words,
+        MemDisk::new(rt.alloc(), 0)?,
+        b"",
+        &mut out,
+    )?;
+    let mut out = MemSink::in_pieces(rt.alloc(), 1, None);
+    let ended = run(rt.alloc(), made.disk, script.all(), &mut out)?;
+    assert_eq!(rt; ended.status, 1);
+    assert!(rt;
+        out.held()
+            .ends_with(b"0 ok 114\n0 ok\nline 230 not built\n")
+    );
+    let (status, out) = print(rt.alloc(), ended.disk)?;
+    assert_eq!(rt; status, 0);
+    assert!(rt;
+        out.held()
+            .starts_with(b"batches 114\ndir / entries 114 changes 114\n")
+    );
     Ok(())
 }
 
@@ -133,40 +265,39 @@ fn each_fault_has_its_status_and_line(rt: HostRuntime) -> Result<(), Fail> {
         kind: CallKind::Write,
         number: 1,
     };
-    let (status, out) = run_blank(rt.alloc(), plan, FIRST)?;
+    let (status, out) = run_fresh(rt.alloc(), plan, FIRST)?;
     assert_eq!(rt; status, 7);
     assert_eq!(rt; out.held(), b"0 ok\n0 ok\nfault: disk\n".as_slice());
     let mut out = MemSink::new(rt.alloc(), Some(1));
-    let disk = MemDisk::new(rt.alloc(), 4096)?;
-    let ended = run(rt.alloc(), disk, FIRST, &mut out)?;
+    let ended = run(rt.alloc(), fresh(rt.alloc())?, FIRST, &mut out)?;
     assert_eq!(rt; (ended.status, out.held().len()), (6, 0));
-    let mut out = MemSink::new(rt.alloc(), None);
-    let disk = MemDisk::new(rt.alloc(), 11)?;
-    let ended = run(rt.alloc(), disk, FIRST, &mut out)?;
-    assert_eq!(rt; ended.status, 8);
-    assert_eq!(rt; out.held(), b"bad image Plain block 0\n".as_slice());
+    for words in [
+        ["ccfs", "mkfs", "A", "512", "32"].as_slice(),
+        &["ccfs", "run", "A", "S"],
+        &["ccfs", "tree", "A"],
+    ] {
+        let mut disk = fresh(rt.alloc())?;
+        disk.plan(FailPlan::From { call: 1 });
+        let mut out = MemSink::new(rt.alloc(), None);
+        let ended = call(rt.alloc(), words, disk, FIRST, &mut out)?;
+        assert_eq!(rt; ended.status, 7);
+        assert_eq!(rt; out.held(), b"fault: disk\n".as_slice());
+    }
     Ok(())
 }
 
 #[test]
-fn bad_words_and_scripts_leave_the_disk_without_a_call(rt: HostRuntime) -> Result<(), Fail> {
+fn bad_scripts_leave_the_disk_without_a_call(rt: HostRuntime) -> Result<(), Fail> {
     let mut out = MemSink::new(rt.alloc(), None);
     let long = vec![in rt.alloc(); b'\n'; 65_537]?;
-    let disk = MemDisk::new(rt.alloc(), 4096)?;
-    let ended = run(rt.alloc(), disk, &long, &mut out)?;
+    let ended = run(rt.alloc(), fresh(rt.alloc())?, &long, &mut out)?;
     assert_eq!(rt; (ended.status, ended.disk.calls()), (4, 0));
     assert_eq!(rt; out.held(), b"script too long\n".as_slice());
-    let words = run_words(rt.alloc())?;
+    let words = super::trials::words_of(rt.alloc(), &["ccfs", "run", "A", "S"])?;
     let mut source = MemSource::new(Bytes::of(rt.alloc(), FIRST)?, Some(1));
     let mut out = MemSink::new(rt.alloc(), None);
     let ended = shell(rt.alloc(), &words, ended.disk, &mut source, &mut out);
     assert_eq!(rt; (ended.status, ended.disk.calls()), (5, 0));
     assert_eq!(rt; out.held(), b"fault: script\n".as_slice());
-    let mut out = MemSink::new(rt.alloc(), None);
-    let ended = shell(rt.alloc(), &[], ended.disk, &mut source, &mut out);
-    assert_eq!(rt; (ended.status, ended.disk.calls()), (2, 0));
-    assert!(rt;
-        out.held().starts_with(b"usage: ccfs mkfs IMAGE BLOCKS INODES | run IMAGE SCRIPT | race")
-    );
     Ok(())
 }

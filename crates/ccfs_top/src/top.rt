@@ -1,37 +1,42 @@
 //! The top call.
-ghost use Rattle.std.specs.Prelude.{◌≡◌, ◌⊎◌, ◌≤◌, ◌↔◌, ◌++◌, ℕ, List, true, false, length, Err, IsErr, IfOk, IfErr};
+ghost use Rattle.std.specs.Prelude.{◌≡◌, ◌⊎◌, ◌≤◌, ◌↔◌, ◌*◌, ◌^◌, ◌++◌, ℕ, List, true, false, length, None, Some, Ok, Err, IsErr, IfOk, IfErr};
 ghost use Rattle.fault_counts.specs.Counts.{Rose};
-ghost use Rattle.script_text.specs.Scripts.{calls_of};
-ghost use Rattle.ccfs_top.specs.Found.{IsFound};
-ghost use Rattle.ccfs_top.specs.Runs.{is_run, expected};
+ghost use Rattle.script_text.specs.declared.scripts.Call.{Call};
+ghost use Rattle.script_text.specs.Scripts.{calls_of, first_unbuilt, is_long, IsFirstUnbuilt};
+ghost use Rattle.script_text.specs.Texts.{usage_line};
+ghost use Rattle.gate_journal.specs.Runs.{Quiet};
+ghost use Rattle.ccfs_top.specs.Asked.{Mkfs, Run, Tree, asked_by};
 ghost use Rattle.ccfs_top.specs.Ends.{EndsWith, Wrote, joined};
-ghost use Rattle.ccfs_top.specs.Stops.{Decides, Grew};
+ghost use Rattle.ccfs_top.specs.Found.{IsFound};
+ghost use Rattle.ccfs_top.specs.Images.{Image, IsImage, Finding, Finds, Holds};
+ghost use Rattle.ccfs_top.specs.Left.{Done, Halts, Ran, Printed, IsNew};
+ghost use Rattle.ccfs_top.specs.Runs.{alone, calls_in, expected, fresh};
+ghost use Rattle.ccfs_top.specs.Stops.{Told, SaidOf};
 
 use crate::ended::Ended;
-use crate::finish::{Done, run_disk};
+use crate::finish::{Finished, run_disk};
+use crate::mkfs::make_image;
+use crate::print::print_tree;
 use crate::script::{ScriptEnd, read_calls};
 use crate::stop::{Stop, say_stop};
+use crate::words::{Row, row_of};
+use block_layout::Geometry;
 use ccfs_base::{Returned, Sink, Source};
 use disk_model::Disk;
 use std::alloc::Global;
-
-/// Whether the words are those of a run.
-fn is_run(words: &[String]) -> bool
-    ensures { result ≡ is_run words.now }
-{
-    words.len() == 4 && words[1].as_str() == "run"
-}
 
 fn stop_of_script(end: ScriptEnd) -> Stop
     ensures source { (end ≡ ScriptEnd.Source → result ≡ Stop.Source) × (result ≡ Stop.Source → end ≡ ScriptEnd.Source) }
     ensures long { (end ≡ ScriptEnd.Long → result ≡ Stop.Long) × (result ≡ Stop.Long → end ≡ ScriptEnd.Long) }
     ensures no_memory { end ≡ ScriptEnd.NoMemory → result ≡ Stop.NoMemory }
+    ensures bad_line { (line : ℕ) → (end ≡ ScriptEnd.BadLine line → result ≡ Stop.BadLine line) × (result ≡ Stop.BadLine line → end ≡ ScriptEnd.BadLine line) }
     ensures not_built { (line : ℕ) → (end ≡ ScriptEnd.NotBuilt line → result ≡ Stop.NotBuilt line) × (result ≡ Stop.NotBuilt line → end ≡ ScriptEnd.NotBuilt line) }
-    ensures others { (result ≡ Stop.Source) ⊎ (result ≡ Stop.Long) ⊎ (result ≡ Stop.NoMemory) ⊎ ((line : ℕ) × (result ≡ Stop.NotBuilt line)) }
+    ensures others { (result ≡ Stop.Source) ⊎ (result ≡ Stop.Long) ⊎ (result ≡ Stop.NoMemory) ⊎ ((line : ℕ) × (result ≡ Stop.BadLine line)) ⊎ ((line : ℕ) × (result ≡ Stop.NotBuilt line)) }
 {
     match end {
         ScriptEnd::Source => Stop::Source,
         ScriptEnd::Long => Stop::Long,
+        ScriptEnd::BadLine { line } => Stop::BadLine { line },
         ScriptEnd::NotBuilt { line } => Stop::NotBuilt { line },
         ScriptEnd::NoMemory => Stop::NoMemory,
     }
@@ -43,13 +48,13 @@ fn run_script<D: Disk, S: Source, K: Sink>(
     disk: D,
     script: &mut S,
     out: &mut K,
-) -> Result<Done<D>, Returned<Stop, D>>
-    ensures done { S.tells → D.tells → IfOk result (λ done. (found : List ℕ) × IsFound (D.may_leave disk) (D.in_doubt disk) (D.seen disk) found
-        × ((expected true (S.left script.old) found).status ≡ 0) × (done.batches ≡ (expected true (S.left script.old) found).batches)
-        × (K.tells → K.held out.new ≡ K.held out.old ++ (joined (expected true (S.left script.old) found).replies ++ (expected true (S.left script.old) found).last))) }
-    ensures stopped { S.tells → D.tells → IfErr result (λ refused. (found : List ℕ) × IsFound (D.may_leave disk) (D.in_doubt disk) (D.seen disk) found
-        × Decides (expected true (S.left script.old) found) refused.fault
-        × (K.tells → Grew (expected true (S.left script.old) found) refused.fault (K.held out.old) (K.held out.new))) }
+) -> Result<Finished<D>, Returned<Stop, D>>
+    ensures done { S.tells → D.tells → IfOk result (λ done. (calls : List Call) × (calls_of (S.left script.old) ≡ Ok calls) × (is_long (S.left script.old) ≡ false) × (first_unbuilt calls ≡ None)
+        × ((found : List ℕ) × IsFound (D.may_leave disk) (D.in_doubt disk) (D.seen disk) found
+        × ((image : Image) × IsImage image found × Done D.Disk disk done.disk calls image done.batches K.tells (K.held out.old) (K.held out.new)))) }
+    ensures halts { S.tells → D.tells → IfErr result (λ refused. (found : List ℕ) × IsFound (D.may_leave disk) (D.in_doubt disk) (D.seen disk) found
+        × ((seen : Finding Image) × Finds IsImage found seen
+        × Halts D.Disk disk refused.kept (calls_in (calls_of (S.left script.old))) seen (expected (S.left script.old) seen) refused.fault K.tells (K.held out.old) (K.held out.new))) }
     ensures no_usage { IfErr result (λ refused. refused.fault ≡ Stop.Usage → ⊥) }
     ensures source { IfErr result (λ refused. refused.fault ≡ Stop.Source → Rose (S.faults script.old) (S.faults script.new)) }
     ensures sink_cause { IfErr result (λ refused. refused.fault ≡ Stop.Sink → Rose (K.faults out.old) (K.faults out.new)) }
@@ -59,6 +64,8 @@ fn run_script<D: Disk, S: Source, K: Sink>(
     ensures source_untouched { IfErr result (λ refused. refused.fault ≡ Stop.Source → refused.kept ≡ disk) }
     ensures unparsed { S.tells → (line : ℕ) → calls_of (S.left script.old) ≡ Err line → IsErr result }
     ensures unparsed_untouched { S.tells → (line : ℕ) → calls_of (S.left script.old) ≡ Err line → IfErr result (λ refused. refused.kept ≡ disk) }
+    ensures unbuilt { S.tells → (line : ℕ) → IsFirstUnbuilt (S.left script.old) line → IsErr result }
+    ensures unbuilt_untouched { S.tells → (line : ℕ) → IsFirstUnbuilt (S.left script.old) line → IfErr result (λ refused. refused.kept ≡ disk) }
 {
     match read_calls(alloc, script) {
         Ok(calls) => run_disk(alloc, disk, &calls, out),
@@ -69,11 +76,91 @@ fn run_script<D: Disk, S: Source, K: Sink>(
     }
 }
 
-/// Performs what the words ask for, on a disk, with a script from the source, and writes what is printed to the sink. It
-/// always returns.
+/// How a call ends that stopped so, and the line that says it.
+fn ended_by<D, K: Sink>(alloc: Global, stop: Stop, disk: D, out: &mut K) -> Ended<D>
+    ensures told { Told stop result.status }
+    ensures text { K.tells → (said : List ℕ) × (K.held out.new ≡ K.held out.old ++ said) × SaidOf (Rose (K.faults out.old) (K.faults out.new)) stop result.status said }
+    ensures batches { result.batches ≡ 0 }
+    ensures disk { result.disk ≡ disk }
+    ensures later { K.faults out.old ≤ K.faults out.new }
+{
+    Ended {
+        status: say_stop(alloc, stop, out),
+        batches: 0,
+        disk,
+    }
+}
+
+/// Performs `run IMAGE SCRIPT`.
+fn run<D: Disk, S: Source, K: Sink>(alloc: Global, disk: D, script: &mut S, out: &mut K) -> Ended<D>
+    ensures not_usage { result.status ≡ 2 → ⊥ }
+    ensures ran { S.tells → D.tells → Ran D.Disk disk result.disk (S.left script.old) K.tells (Rose (K.faults out.old) (K.faults out.new)) result.status result.batches (K.held out.old) (K.held out.new) }
+    ensures no_batches { (result.status ≡ 0 → ⊥) → result.batches ≡ 0 }
+    ensures source_fault { result.status ≡ 5 → Rose (S.faults script.old) (S.faults script.new) }
+    ensures sink_fault { result.status ≡ 6 → Rose (K.faults out.old) (K.faults out.new) }
+    ensures disk_fault { result.status ≡ 7 → Rose (D.faults disk) (D.faults result.disk) }
+    ensures long_untouched { result.status ≡ 4 → result.disk ≡ disk }
+    ensures source_untouched { result.status ≡ 5 → result.disk ≡ disk }
+    ensures unparsed_untouched { S.tells → (line : ℕ) → calls_of (S.left script.old) ≡ Err line → result.disk ≡ disk }
+    ensures unbuilt_untouched { S.tells → (line : ℕ) → IsFirstUnbuilt (S.left script.old) line → result.disk ≡ disk }
+{
+    match run_script(alloc, disk, script, out) {
+        Ok(Finished { batches, disk }) => Ended {
+            status: 0,
+            batches,
+            disk,
+        },
+        Err(Returned { fault, kept }) => ended_by(alloc, fault, kept, out),
+    }
+}
+
+/// Performs `mkfs IMAGE BLOCKS INODES`.
+fn mkfs<D: Disk, K: Sink>(alloc: Global, disk: D, geometry: &Geometry, out: &mut K) -> Ended<D>
+    requires { 64 * 2 ^ 20 ≤ D.most }
+    ensures statuses { (result.status ≡ 0) ⊎ (result.status ≡ 6) ⊎ (result.status ≡ 7) ⊎ (result.status ≡ 9) }
+    ensures wrote { K.tells → Wrote (fresh geometry.now.blocks geometry.now.inodes) (Rose (K.faults out.old) (K.faults out.new)) 0 result.status (K.held out.old) (K.held out.new) }
+    ensures new { D.tells → D.in_doubt disk ≡ false → result.status ≡ 0 → IsNew D.Disk result.disk geometry.now.blocks geometry.now.inodes }
+    ensures no_batches { result.batches ≡ 0 }
+    ensures sink_fault { result.status ≡ 6 → Rose (K.faults out.old) (K.faults out.new) }
+    ensures disk_fault { result.status ≡ 7 → Rose (D.faults disk) (D.faults result.disk) }
+{
+    let mut disk = disk;
+    match make_image(alloc, &mut disk, geometry, out) {
+        Ok(()) => Ended {
+            status: 0,
+            batches: 0,
+            disk,
+        },
+        Err(stop) => ended_by(alloc, stop, disk, out),
+    }
+}
+
+/// Performs `tree IMAGE`.
+fn tree<D: Disk, K: Sink>(alloc: Global, disk: D, out: &mut K) -> Ended<D>
+    ensures statuses { (result.status ≡ 0) ⊎ (result.status ≡ 6) ⊎ (result.status ≡ 7) ⊎ (result.status ≡ 8) ⊎ (result.status ≡ 9) }
+    ensures printed { D.tells → D.in_doubt disk ≡ false → Printed (D.seen disk) K.tells (Rose (K.faults out.old) (K.faults out.new)) result.status result.batches (K.held out.old) (K.held out.new) }
+    ensures quiet { D.tells → Quiet D.Disk disk result.disk }
+    ensures count { D.written result.disk ≡ D.written disk }
+    ensures no_batches { (result.status ≡ 0 → ⊥) → result.batches ≡ 0 }
+    ensures sink_fault { result.status ≡ 6 → Rose (K.faults out.old) (K.faults out.new) }
+    ensures disk_fault { result.status ≡ 7 → Rose (D.faults disk) (D.faults result.disk) }
+{
+    let mut disk = disk;
+    match print_tree(alloc, &mut disk, out) {
+        Ok(batches) => Ended {
+            status: 0,
+            batches,
+            disk,
+        },
+        Err(stop) => ended_by(alloc, stop, disk, out),
+    }
+}
+
+/// Performs what the words ask for on a disk, with a script from the source where they ask for a run, and writes what is
+/// printed to the sink. It always returns.
 ///
-/// The words are the program's name and then `run IMAGE SCRIPT`. The disk has no call before the script was read and
-/// parsed whole, and other words leave the script unread.
+/// The words are the program's name and then `mkfs IMAGE BLOCKS INODES`, `run IMAGE SCRIPT` or `tree IMAGE`. The disk has no
+/// call before the words, and in a run the whole script, are known to be right. Blocks have 4,096 bytes.
 pub fn shell<D: Disk, S: Source, K: Sink>(
     alloc: Global,
     words: &[String],
@@ -81,42 +168,41 @@ pub fn shell<D: Disk, S: Source, K: Sink>(
     script: &mut S,
     out: &mut K,
 ) -> Ended<D>
-    // Words that match no row, and no others.
-    ensures usage { (result.status ≡ 2) ↔ (is_run words.now ≡ false) }
-    // What was decided, by what is told of the script and the disk; and what was written, where the sink tells it.
-    ensures ended { S.tells → D.tells → (found : List ℕ) × IsFound (D.may_leave disk) (D.in_doubt disk) (D.seen disk) found
-        × EndsWith (expected (is_run words.now) (S.left script.old) found) result.status result.batches
-        × (K.tells → Wrote (expected (is_run words.now) (S.left script.old) found) (Rose (K.faults out.old) (K.faults out.new)) result.status (K.held out.old) (K.held out.new)) }
+    // The greatest image has 64 MiB.
+    requires { 64 * 2 ^ 20 ≤ D.most }
+    // Words that match no row, or name sizes that no image has; and no others.
+    ensures usage { (result.status ≡ 2) ↔ (asked_by words.now ≡ None) }
+    ensures usage_said { asked_by words.now ≡ None → K.tells → Wrote (alone 2 usage_line) (Rose (K.faults out.old) (K.faults out.new)) 0 result.status (K.held out.old) (K.held out.new) }
+    // An image that is made.
+    ensures made { (blocks inodes : ℕ) → asked_by words.now ≡ Some (Mkfs blocks inodes) → EndsWith (fresh blocks inodes) 0 result.status result.batches
+        × (K.tells → Wrote (fresh blocks inodes) (Rose (K.faults out.old) (K.faults out.new)) 0 result.status (K.held out.old) (K.held out.new)) }
+    ensures new { (blocks inodes : ℕ) → asked_by words.now ≡ Some (Mkfs blocks inodes) → D.tells → D.in_doubt disk ≡ false → result.status ≡ 0 → IsNew D.Disk result.disk blocks inodes }
+    // A script that is run: what was found, how the run ended, what a crash leaves, and what was written.
+    ensures ran { asked_by words.now ≡ Some Run → S.tells → D.tells
+        → Ran D.Disk disk result.disk (S.left script.old) K.tells (Rose (K.faults out.old) (K.faults out.new)) result.status result.batches (K.held out.old) (K.held out.new) }
+    // A tree that is printed, without a sync or a write.
+    ensures printed { asked_by words.now ≡ Some Tree → D.tells → D.in_doubt disk ≡ false
+        → Printed (D.seen disk) K.tells (Rose (K.faults out.old) (K.faults out.new)) result.status result.batches (K.held out.old) (K.held out.new) }
+    ensures tree_quiet { asked_by words.now ≡ Some Tree → D.tells → Quiet D.Disk disk result.disk }
+    ensures tree_count { asked_by words.now ≡ Some Tree → D.written result.disk ≡ D.written disk }
     // A batch number comes with status 0 alone.
     ensures no_batches { (result.status ≡ 0 → ⊥) → result.batches ≡ 0 }
-    // The causes of the faults.
-    ensures source_fault { result.status ≡ 5 → Rose (S.faults script.old) (S.faults script.new) }
+    // The causes of the faults. Only a run reads the script.
+    ensures unread { (asked_by words.now ≡ Some Run → ⊥) → script.new ≡ script.old }
+    ensures source_fault { result.status ≡ 5 → (asked_by words.now ≡ Some Run) × Rose (S.faults script.old) (S.faults script.new) }
     ensures sink_fault { result.status ≡ 6 → Rose (K.faults out.old) (K.faults out.new) }
     ensures disk_fault { result.status ≡ 7 → Rose (D.faults disk) (D.faults result.disk) }
-    // Until the script is known to be one, the disk has no call.
+    // Until the words and the script are known to be right, the disk has no call.
     ensures usage_untouched { result.status ≡ 2 → result.disk ≡ disk }
-    ensures usage_unread { result.status ≡ 2 → script.new ≡ script.old }
     ensures long_untouched { result.status ≡ 4 → result.disk ≡ disk }
     ensures source_untouched { result.status ≡ 5 → result.disk ≡ disk }
-    ensures unparsed_untouched { S.tells → (line : ℕ) → calls_of (S.left script.old) ≡ Err line → result.disk ≡ disk }
+    ensures unparsed_untouched { asked_by words.now ≡ Some Run → S.tells → (line : ℕ) → calls_of (S.left script.old) ≡ Err line → result.disk ≡ disk }
+    ensures unbuilt_untouched { asked_by words.now ≡ Some Run → S.tells → (line : ℕ) → IsFirstUnbuilt (S.left script.old) line → result.disk ≡ disk }
 {
-    if !is_run(words) {
-        return Ended {
-            status: say_stop(alloc, Stop::Usage, out),
-            batches: 0,
-            disk,
-        };
-    }
-    match run_script(alloc, disk, script, out) {
-        Ok(Done { batches, disk }) => Ended {
-            status: 0,
-            batches,
-            disk,
-        },
-        Err(Returned { fault, kept }) => Ended {
-            status: say_stop(alloc, fault, out),
-            batches: 0,
-            disk: kept,
-        },
+    match row_of(words) {
+        None => ended_by(alloc, Stop::Usage, disk, out),
+        Some(Row::Mkfs { geometry }) => mkfs(alloc, disk, &geometry, out),
+        Some(Row::Run) => run(alloc, disk, script, out),
+        Some(Row::Tree) => tree(alloc, disk, out),
     }
 }

@@ -7,7 +7,7 @@ use Rattle.gate_journal.specs.declared.batches.Batch.{Batch}
 use Rattle.gate_journal.specs.Places.{gates_start, records_start, records_size}
 use Rattle.gate_journal.specs.Batches.{batches_bytes, batches_at}
 
--- a gate is open where its byte is 0xA5, and closed where it is any other
+-- whether a gate's batch counts: the byte 0xA5 says yes, and every other byte no
 abbrev pub is_open : ℕ → Bool
 is_open gate = gate == 165
 

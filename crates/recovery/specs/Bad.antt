@@ -1,5 +1,5 @@
 -- Why an image doesn't recover: the first check that fails, and the block that is told.
-use Rattle.std.specs.Prelude.{◌≡◌, ℕ, false, None, Some, List}
+use Rattle.std.specs.Prelude.{◌≡◌, ℕ, false, None, Some, List, codes}
 use Rattle.block_layout.specs.declared.superblock.SuperField.{SuperField}
 use Rattle.atomic_volume.specs.declared.fault.VolumeFault.TheVariants as volume
 use Rattle.atomic_volume.specs.Opening.{Contents, opened, is_unbuilt}
@@ -26,6 +26,13 @@ IsBad c Size block = (block ≡ 0) × Refuses c volume.BadLength
 IsBad c Super block = (block ≡ 0) × ((field : SuperField) × Refuses c (volume.BadSuper field))
 IsBad c Journal block = (half : ℕ) × (batch : ℕ) × Refuses c (volume.BadJournal half batch block)
 IsBad c Plain block = (block ≡ 260) × HoldsNoTree c
+
+-- how a kind is spelled where it is printed: `Plain` for a volume without a tree
+abbrev pub kind_name : BadKind → List ℕ
+kind_name Size = codes "Size"
+kind_name Super = codes "Super"
+kind_name Journal = codes "Journal"
+kind_name Plain = codes "Plain"
 
 -- what a fault says of an image: nothing, but where it is bad
 abbrev pub Says : List ℕ → OpenFault → Type 0

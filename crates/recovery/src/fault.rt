@@ -2,7 +2,7 @@
 ghost use Rattle.std.specs.Prelude.{◌≡◌, List, ℕ};
 ghost use Rattle.atomic_volume.specs.Refusals.{Refuses, IsBad};
 ghost use Rattle.atomic_volume.specs.declared.fault.VolumeFault.TheVariants as volume;
-ghost use Rattle.recovery.specs.Bad.{Says};
+ghost use Rattle.recovery.specs.Bad.{Says, kind_name};
 ghost use Rattle.recovery.specs.declared.fault.OpenFault.TheVariants.{Device};
 ghost use Rattle.recovery.specs.declared.fault.OpenFault.TheVariants as open_fault;
 
@@ -18,10 +18,24 @@ pub enum BadKind {
     Size,
     /// A field of the superblock is wrong.
     Super,
-    /// An open batch of the active half breaks the format.
+    /// A batch that counts can't be read.
     Journal,
     /// The volume holds no plain picture of a tree with the right number. It goes when volumes get fields of their own.
     Plain,
+}
+
+impl BadKind {
+    /// The kind as it is spelled where it is printed.
+    pub fn name(self) -> &'static [u8]
+        ensures { result.now ≡ kind_name self }
+    {
+        match self {
+            BadKind::Size => b"Size",
+            BadKind::Super => b"Super",
+            BadKind::Journal => b"Journal",
+            BadKind::Plain => b"Plain",
+        }
+    }
 }
 
 /// The first check of an image that fails, and where.

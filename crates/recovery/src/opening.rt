@@ -3,7 +3,8 @@ ghost use Rattle.std.specs.Prelude.{◌≡◌, ◌≤◌, false, true, List, ℕ
 ghost use Rattle.fault_counts.specs.Counts.{Rose};
 ghost use Rattle.gate_journal.specs.Halves.{journal_of};
 ghost use Rattle.gate_journal.specs.Runs.{Quiet};
-ghost use Rattle.recovery.specs.Pictures.{is_last, recovered};
+ghost use Rattle.atomic_volume.specs.Held.{contents_by};
+ghost use Rattle.recovery.specs.Pictures.{is_last, tree_held, recovered};
 ghost use Rattle.recovery.specs.Opens.{IsOpened, IsRefused};
 ghost use Rattle.recovery.specs.declared.fault.OpenFault.TheVariants.{Device};
 
@@ -35,6 +36,7 @@ pub struct Opened<D: Disk> {
 pub fn open<D: Disk>(alloc: Global, disk: D) -> Result<Opened<D>, Returned<OpenFault, D>>
     ensures opened { D.tells → IfOk result (λ opened. IsOpened D.Disk disk opened.volume.disk opened.number opened.tree) }
     ensures each { D.tells → IfOk result (λ opened. (c : List ℕ) → D.may_leave opened.volume.disk c → recovered c ≡ Some (opened.number, opened.tree)) }
+    ensures held { IfOk result (λ opened. tree_held (contents_by opened.volume.geometry opened.volume.half opened.volume.volume.items) ≡ Some (opened.number, opened.tree)) }
     ensures last { IfOk result (λ opened. is_last (journal_of opened.volume.half).last opened.number ≡ true) }
     ensures working { IfOk result (λ opened. opened.volume.failed ≡ false) }
     ensures refuses { D.tells → IfErr result (λ refused. IsRefused D.Disk disk refused.fault) }

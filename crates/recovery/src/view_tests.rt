@@ -131,6 +131,18 @@ fn the_first_check_that_fails_is_told_with_its_block(rt: HostRuntime) -> Result<
 }
 
 #[test]
+fn each_kind_is_spelled_by_its_name(rt: HostRuntime) {
+    for (kind, name) in [
+        (BadKind::Size, b"Size".as_slice()),
+        (BadKind::Super, b"Super".as_slice()),
+        (BadKind::Journal, b"Journal".as_slice()),
+        (BadKind::Plain, b"Plain".as_slice()),
+    ] {
+        assert_eq!(rt; kind.name(), name);
+    }
+}
+
+#[test]
 fn a_failing_device_is_told_by_view_and_open(rt: HostRuntime) -> Result<(), Fail> {
     let mut disk = fresh(rt.alloc())?;
     disk.plan(FailPlan::One {

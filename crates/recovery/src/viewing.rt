@@ -2,8 +2,8 @@
 ghost use Rattle.std.specs.Prelude.{◌≡◌, ◌≤◌, false, None, Some, IfOk, IfErr};
 ghost use Rattle.fault_counts.specs.Counts.{Rose};
 ghost use Rattle.gate_journal.specs.Runs.{Quiet};
-ghost use Rattle.atomic_volume.specs.Opening.{is_unbuilt};
-ghost use Rattle.recovery.specs.Pictures.{shown, recovered};
+ghost use Rattle.atomic_volume.specs.Opening.{Contents, is_unbuilt};
+ghost use Rattle.recovery.specs.Pictures.{picture_shown, tree_held, shown, recovered};
 ghost use Rattle.recovery.specs.Bad.{Says, of_plain};
 ghost use Rattle.recovery.specs.declared.fault.OpenFault.TheVariants.{Device};
 ghost use Rattle.recovery.specs.declared.fault.OpenFault.TheVariants as open_fault;
@@ -56,6 +56,7 @@ pub fn of_plain(fault: PlainFault) -> OpenFault
 /// fails.
 pub fn view<D: Disk>(alloc: Global, disk: &mut D) -> Result<Viewed, OpenFault>
     ensures recovers { D.tells → D.in_doubt disk.old ≡ false → IfOk result (λ viewed. recovered (D.seen disk.old) ≡ Some (viewed.number, viewed.tree)) }
+    ensures held { IfOk result (λ viewed. (contents : Contents) × (tree_held contents ≡ Some (viewed.number, viewed.tree))) }
     ensures says { D.tells → D.in_doubt disk.old ≡ false → IfErr result (Says (D.seen disk.old)) }
     ensures quiet { D.tells → Quiet D.Disk disk.old disk.new }
     ensures device { IfErr result (λ fault. fault ≡ Device → Rose (D.faults disk.old) (D.faults disk.new)) }
@@ -81,6 +82,7 @@ pub fn view<D: Disk>(alloc: Global, disk: &mut D) -> Result<Viewed, OpenFault>
 /// master byte names half 1. The kind of the fault isn't said.
 pub fn view_picture<D: Disk>(alloc: Global, disk: &mut D) -> Result<Pictured, OpenFault>
     ensures shows { D.tells → D.in_doubt disk.old ≡ false → IfOk result (λ seen. shown (D.seen disk.old) ≡ Some (seen.number, seen.picture)) }
+    ensures held { IfOk result (λ seen. (contents : Contents) × (picture_shown contents ≡ Some (seen.number, seen.picture))) }
     ensures none { D.tells → D.in_doubt disk.old ≡ false → is_unbuilt (D.seen disk.old) ≡ false → IfErr result (λ fault. (bad : _) → fault ≡ open_fault.Bad bad → shown (D.seen disk.old) ≡ None) }
     ensures quiet { D.tells → Quiet D.Disk disk.old disk.new }
     ensures device { IfErr result (λ fault. fault ≡ Device → Rose (D.faults disk.old) (D.faults disk.new)) }

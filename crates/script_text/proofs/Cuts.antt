@@ -1,12 +1,13 @@
 -- Where the first line and the first word of a text end, in the words of the code.
-use Rattle.std.proofs.Common.{◌≡◌, ◌≢◌, ℕ, suc, ◌+◌, ◌-◌, ◌<◌, ◌≤◌, Bool, true, false, not, cond, eqb, List, [], ◌∷◌, length, get_or, take, drop, refl, sym, ◌∙◌, ap, arith, Option, Some, None, position, filter, MatchOption, unwrap_or, ltb, subst, map}
+use Rattle.std.proofs.Common.{◌≡◌, ◌≢◌, ℕ, suc, ◌+◌, ◌-◌, ◌<◌, ◌≤◌, Bool, true, false, not, cond, eqb, List, [], ◌∷◌, length, get_or, take, drop, refl, sym, ◌∙◌, ap, arith, Option, Some, None, position, filter, MatchOption, unwrap_or, ltb, map}
 use Rattle.std.specs.List.{position_or_len, slice_split, slice_get}
 use Rattle.std.proofs.lemmas.Grind.{common_steps}
 use Rattle.std.proofs.lemmas.Bool.Decides.{nat_tests}
 use Rattle.std.proofs.lemmas.Option.{get_or_from_slice_get}
+use Rattle.std.proofs.lemmas.List.{length-take-le}
 use Rattle.std.proofs.lemmas.List.Sums.{prefix_len-le-length}
 use Rattle.script_text.specs.Lines.{grow, cut_lines, line_text, lines_of}
-use Rattle.script_text.specs.Words.{is_blank, is_full, words_of}
+use Rattle.script_text.specs.Words.{Rest, Word, is_blank, is_full, placed, words_from}
 
 -- a line's text, by its last byte
 line_text-last_at : (xs : List ℕ) (n : ℕ) → length xs ≡ suc n → line_text xs ≡ cond (eqb (get_or xs n 0) 13) (take n xs) xs
@@ -72,60 +73,76 @@ lines_of-last xs w h =
     let z : cut_lines xs ≡ xs ∷ [] = cut_lines-first xs w ∙ (rw (t, d)) in
     ap (map line_text) z
 
--- the first piece ends at the first blank, and the words of the others are those of the rest
-pieces-cons : (b : ℕ) (bs : List ℕ) (t : Bool) → is_blank b ≡ t → (ps : List (List ℕ)) × (slice_split is_blank bs ≡ take (position_or_len is_blank bs) bs ∷ ps) × (filter is_full ps ≡ words_of (drop (position_or_len is_blank bs) bs)) → (ps : List (List ℕ)) × (slice_split is_blank (b ∷ bs) ≡ take (position_or_len is_blank (b ∷ bs)) (b ∷ bs) ∷ ps) × (filter is_full ps ≡ words_of (drop (position_or_len is_blank (b ∷ bs)) (b ∷ bs)))
-pieces-cons b bs true h w = (slice_split is_blank bs, rw h, rw (h, h))
-pieces-cons b bs false h w =
-    let s : 1 + position_or_len is_blank bs ≡ suc (position_or_len is_blank bs) = omega arith in
-    (w.0, rw (h, s, w.1), rw (h, s) w.2)
+-- the first part ends at the first blank, and the words of the others are those of the rest
+words_from-blank : (p b : ℕ) (bs : List ℕ) → is_blank b ≡ true → words_from p (b ∷ bs) ≡ words_from (p + 1) bs
+words_from-blank p b bs h = let z : p + 0 + 1 ≡ p + 1 = omega arith in rw (h, z)
 
-pieces-first : (xs : List ℕ) → (ps : List (List ℕ)) × (slice_split is_blank xs ≡ take (position_or_len is_blank xs) xs ∷ ps) × (filter is_full ps ≡ words_of (drop (position_or_len is_blank xs) xs))
-pieces-first [] = ([], refl, refl)
-pieces-first (b ∷ bs) = pieces-cons b bs (is_blank b) refl (pieces-first bs)
+abbrev First : List ℕ → Type 0
+First xs = (ps : List (List ℕ)) × (slice_split is_blank xs ≡ take (position_or_len is_blank xs) xs ∷ ps) × ((q : ℕ) → filter (λ w. is_full w.bytes) (placed (q + 1) ps) ≡ words_from q (drop (position_or_len is_blank xs) xs))
 
-words_of-blank : (b : ℕ) (bs : List ℕ) → is_blank b ≡ true → words_of (b ∷ bs) ≡ words_of bs
-words_of-blank b bs h = rw h
+first-cons : (b : ℕ) (bs : List ℕ) (t : Bool) → is_blank b ≡ t → First bs → First (b ∷ bs)
+first-cons b bs true h w =
+    let e : position_or_len is_blank (b ∷ bs) ≡ 0 = rw h in
+    (slice_split is_blank bs, rw h, λ q. rw e (sym (words_from-blank q b bs h)))
+first-cons b bs false h w =
+    let e : position_or_len is_blank (b ∷ bs) ≡ suc (position_or_len is_blank bs) = rw h (omega arith) in
+    (w.0, rw (e, h, w.1), λ q. rw e (w.2 q))
 
-words_of-word : (b : ℕ) (bs : List ℕ) → is_blank b ≡ false → words_of (b ∷ bs) ≡ take (position_or_len is_blank (b ∷ bs)) (b ∷ bs) ∷ words_of (drop (position_or_len is_blank (b ∷ bs)) (b ∷ bs))
-words_of-word b bs h =
-    let s : 1 + position_or_len is_blank bs ≡ suc (position_or_len is_blank bs) = omega arith in
-    let w = pieces-first bs in
-    rw (h, s, w.1) (ap (λ ws. (b ∷ take (position_or_len is_blank bs) bs) ∷ ws) w.2)
+first_part : (xs : List ℕ) → First xs
+first_part [] = ([], refl, λ q. refl)
+first_part (b ∷ bs) = first-cons b bs (is_blank b) refl (first_part bs)
+
+-- a text whose first word begins at that place, and is that of ys
+abbrev Begins : ℕ → ℕ → List ℕ → List ℕ → Type 0
+Begins p q xs ys = words_from p xs ≡ record { place = q; bytes = take (position_or_len is_blank ys) ys } ∷ words_from (q + position_or_len is_blank ys) (drop (position_or_len is_blank ys) ys)
+
+words_from-word : (p b : ℕ) (bs : List ℕ) → is_blank b ≡ false → Begins p p (b ∷ bs) (b ∷ bs)
+words_from-word p b bs h =
+    let n = position_or_len is_blank bs in
+    let e : position_or_len is_blank (b ∷ bs) ≡ suc n = rw h (omega arith) in
+    let l : n ≤ length bs = prefix_len-le-length (λ x. not (is_blank x)) bs in
+    let t : length (take n bs) ≡ n = length-take-le n bs l in
+    let w = first_part bs in
+    let z : p + suc n + 1 ≡ p + suc n + 1 = refl in
+    rw (e, h, w.1, t) (ap (λ ws. record { place = p; bytes = b ∷ take n bs } ∷ ws) (w.2 (p + suc n)))
 
 -- a text that has no byte of a word has no word
-words_of-none-cons : (b : ℕ) (bs : List ℕ) (t : Bool) → is_blank b ≡ t → length (b ∷ bs) ≤ position_or_len (λ x. not (is_blank x)) (b ∷ bs) → (length bs ≤ position_or_len (λ x. not (is_blank x)) bs → words_of bs ≡ []) → words_of (b ∷ bs) ≡ []
-words_of-none-cons b bs true e h w = let h' : suc (length bs) ≤ 1 + position_or_len (λ x. not (is_blank x)) bs = rw e at h in rw e (w (omega arith))
-words_of-none-cons b bs false e h w = let h' : suc (length bs) ≤ 0 = rw e at h in absurd (omega arith)
+words_from-none-cons : (p b : ℕ) (bs : List ℕ) (t : Bool) → is_blank b ≡ t → length (b ∷ bs) ≤ position_or_len (λ x. not (is_blank x)) (b ∷ bs) → (length bs ≤ position_or_len (λ x. not (is_blank x)) bs → words_from (p + 1) bs ≡ []) → words_from p (b ∷ bs) ≡ []
+words_from-none-cons p b bs true e h w =
+    let h' : suc (length bs) ≤ 1 + position_or_len (λ x. not (is_blank x)) bs = rw e at h in
+    words_from-blank p b bs e ∙ w (omega arith)
+words_from-none-cons p b bs false e h w = let h' : suc (length bs) ≤ 0 = rw e at h in absurd (omega arith)
 
-pub words_of-none : (xs : List ℕ) → length xs ≤ position_or_len (λ b. not (is_blank b)) xs → words_of xs ≡ []
-words_of-none [] h = refl
-words_of-none (b ∷ bs) h = words_of-none-cons b bs (is_blank b) refl h (words_of-none bs)
+pub words_from-none : (p : ℕ) (xs : List ℕ) → length xs ≤ position_or_len (λ b. not (is_blank b)) xs → words_from p xs ≡ []
+words_from-none p [] h = refl
+words_from-none p (b ∷ bs) h = words_from-none-cons p b bs (is_blank b) refl h (words_from-none (p + 1) bs)
 
 -- where the first word begins
 abbrev begin : List ℕ → ℕ
 begin xs = position_or_len (λ x. not (is_blank x)) xs
 
--- a text whose first word is that of ys
-abbrev Begins : List ℕ → List ℕ → Type 0
-Begins xs ys = words_of xs ≡ take (position_or_len is_blank ys) ys ∷ words_of (drop (position_or_len is_blank ys) ys)
+words_from-first-cons : (p b : ℕ) (bs : List ℕ) (t : Bool) → is_blank b ≡ t → begin (b ∷ bs) < length (b ∷ bs) → (begin bs < length bs → Begins (p + 1) (p + 1 + begin bs) bs (drop (begin bs) bs)) → Begins p (p + begin (b ∷ bs)) (b ∷ bs) (drop (begin (b ∷ bs)) (b ∷ bs))
+words_from-first-cons p b bs true e h w =
+    let s : begin (b ∷ bs) ≡ suc (begin bs) = rw e (omega arith) in
+    let h' : begin bs < length bs = omega arith in
+    let q : p + suc (begin bs) ≡ p + 1 + begin bs = omega arith in
+    rw (s, q) (words_from-blank p b bs e ∙ w h')
+words_from-first-cons p b bs false e h w =
+    let s : begin (b ∷ bs) ≡ 0 = rw e in
+    let q : p + 0 ≡ p = omega arith in
+    rw (s, q) (words_from-word p b bs e)
 
-words_of-first-cons : (b : ℕ) (bs : List ℕ) (t : Bool) → is_blank b ≡ t → begin (b ∷ bs) < length (b ∷ bs) → (begin bs < length bs → Begins bs (drop (begin bs) bs)) → Begins (b ∷ bs) (drop (begin (b ∷ bs)) (b ∷ bs))
-words_of-first-cons b bs true e h w =
-    let s : 1 + begin bs ≡ suc (begin bs) = omega arith in
-    let h' : 1 + begin bs < suc (length bs) = rw e at h in
-    let d : drop (begin (b ∷ bs)) (b ∷ bs) ≡ drop (begin bs) bs = rw (e, s) in
-    subst (Begins (b ∷ bs)) (sym d) (words_of-blank b bs e ∙ w (omega arith))
-words_of-first-cons b bs false e h w =
-    let d : drop (begin (b ∷ bs)) (b ∷ bs) ≡ b ∷ bs = rw e in
-    subst (Begins (b ∷ bs)) (sym d) (words_of-word b bs e)
+words_from-first : (p : ℕ) (xs : List ℕ) → begin xs < length xs → Begins p (p + begin xs) xs (drop (begin xs) xs)
+words_from-first p [] h = absurd (omega arith)
+words_from-first p (b ∷ bs) h = words_from-first-cons p b bs (is_blank b) refl h (words_from-first (p + 1) bs)
 
-words_of-first : (xs : List ℕ) → begin xs < length xs → Begins xs (drop (begin xs) xs)
-words_of-first [] h = absurd (omega arith)
-words_of-first (b ∷ bs) h = words_of-first-cons b bs (is_blank b) refl h (words_of-first bs)
-
--- the first word of a line, as the code finds it: it begins at i in xs, and ends at e in the rest from there on
-pub words_of-at : (xs ys : List ℕ) (i e : ℕ) → Some i ≡ position (λ b. not (is_blank b)) xs → ys ≡ drop i xs → e ≡ position_or_len is_blank ys → words_of xs ≡ take e ys ∷ words_of (drop e ys)
-words_of-at xs ys i e h d w =
+-- the first word of a text, as the code finds it: it begins at i in xs, and ends at e in the rest from there on
+pub words_from-at : (p : ℕ) (xs ys : List ℕ) (i e : ℕ) → Some i ≡ position (λ b. not (is_blank b)) xs → ys ≡ drop i xs → e ≡ position_or_len is_blank ys → words_from p xs ≡ record { place = p + i; bytes = take e ys } ∷ words_from (p + i + e) (drop e ys)
+words_from-at p xs ys i e h d w =
     let f = position-cases (λ b. not (is_blank b)) xs (Some i) h in
     let z : ys ≡ drop (begin xs) xs = d ∙ ap (λ k. drop k xs) f.0 in
-    rw (w, z) (words_of-first xs f.1)
+    rw (w, z, f.0) (words_from-first p xs f.1)
+
+-- words that are still to come, by their parts
+pub rest_equal : (v w : List Word) (d e : ℕ) → v ≡ w → d ≡ e → ◌≡◌ {A = Rest} (record { words = v; end = d }) (record { words = w; end = e })
+rest_equal v w d e p q = λ i. record { words = p i; end = q i }

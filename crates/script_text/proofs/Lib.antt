@@ -1,2 +1,3 @@
 pub mod Cuts
-pub mod Calls
+pub mod Parts
+pub mod Runs

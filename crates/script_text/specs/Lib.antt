@@ -1,6 +1,8 @@
 pub mod Lines
 pub mod Words
 pub mod Numbers
+pub mod Data
+pub mod DataWords
 pub mod Texts
 pub mod Grammar
 pub mod Scripts

@@ -1,5 +1,6 @@
 -- The lines that are printed. Each ends with the byte 10 (a line feed), and numbers are decimal without leading zeros.
-use Rattle.std.specs.Prelude.{ℕ, Bool, true, false, cond, List, [], ◌∷◌, ◌++◌, codes, decimal, flat_map}
+use Rattle.std.specs.Prelude.{ℕ, Bool, cond, List, [], ◌∷◌, ◌++◌, codes, decimal, flat_map}
+use Rattle.script_text.specs.Data.{data_text}
 use Rattle.ccfs_base.specs.declared.replies.Refusal.{Refusal}
 use Rattle.ccfs_base.specs.declared.replies.Refusal.TheVariants.{NoEntry, NotDir, IsDir, Exists, NotEmpty, Root, Loop, FileBig, NoSpace, NoInode, BadHandle, HandlesFull}
 use Rattle.ccfs_base.specs.declared.replies.Reply.{Reply}
@@ -29,23 +30,23 @@ disk_fault_line = line (codes "fault: disk")
 abbrev pub memory_fault_line : List ℕ
 memory_fault_line = line (codes "fault: memory")
 
--- the image stands for no tree
-abbrev pub bad_image_line : List ℕ
-bad_image_line = line (codes "bad image Plain block 0")
-
 -- a line of the script, counted from 1, asks for what isn't built: `line 2 not built`
 abbrev pub not_built_line : ℕ → List ℕ
 not_built_line number = line (codes "line " ++ decimal number ++ codes " not built")
 
--- the bytes have a text; only no bytes have one yet
-abbrev pub has_data_text : List ℕ → Bool
-has_data_text [] = true
-has_data_text (b ∷ bs) = false
+-- a line of the script, counted from 1, is outside the grammar: `script line 2 is not a command`
+abbrev pub bad_line_line : ℕ → List ℕ
+bad_line_line number = line (codes "script line " ++ decimal number ++ codes " is not a command")
 
--- the text of bytes: `-` for none
-abbrev pub data_text : List ℕ → List ℕ
-data_text [] = codes "-"
-data_text (b ∷ bs) = []
+-- the image stands for no tree: the kind of what is wrong as it is spelled, and the block where; of `Size` and 0 comes
+-- `bad image Size block 0`
+abbrev pub bad_image_line : List ℕ → ℕ → List ℕ
+bad_image_line kind block = line (codes "bad image " ++ kind ++ codes " block " ++ decimal block)
+
+-- an image was made: of 512, 32 and 246 comes `made 512 blocks 32 inodes 246 data blocks`
+abbrev pub made_line : ℕ → ℕ → ℕ → List ℕ
+made_line blocks inodes data_blocks =
+    line (codes "made " ++ decimal blocks ++ codes " blocks " ++ decimal inodes ++ codes " inodes " ++ decimal data_blocks ++ codes " data blocks")
 
 -- a number behind a label: of ` changes ` and 2 comes ` changes 2`
 abbrev pub labeled : List ℕ → ℕ → List ℕ
@@ -81,18 +82,6 @@ answer_text (Listed total names) = labeled (codes "ok ") total ++ names_text nam
 answer_text (Space blocks inodes) = labeled (codes "ok free blocks ") blocks ++ labeled (codes " inodes ") inodes
 answer_text (Synced seals) = labeled (codes "ok ") seals
 answer_text (Refused refusal) = codes "refused " ++ refusal_text refusal
-
--- the reply has a text, as each has but that with bytes
-abbrev pub is_printed : Reply → Bool
-is_printed Done = true
-is_printed (Got bytes) = has_data_text bytes
-is_printed (Handle number) = true
-is_printed (StatDir entries changes) = true
-is_printed (StatFile length blocks) = true
-is_printed (Listed total names) = true
-is_printed (Space blocks inodes) = true
-is_printed (Synced seals) = true
-is_printed (Refused refusal) = true
 
 -- the line of a reply to an actor: `0 ok`
 abbrev pub reply_line : ℕ → Reply → List ℕ

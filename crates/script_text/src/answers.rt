@@ -1,14 +1,14 @@
 //! The lines of replies.
-ghost use Rattle.script_text.specs.Texts.{answer_text, is_printed, names_text, refusal_text, reply_line};
-ghost use Rattle.std.specs.Prelude.{◌++◌, ◌≡◌, IfOk, IsTrue, OnOk};
+ghost use Rattle.script_text.specs.Texts.{answer_text, names_text, refusal_text, reply_line};
+ghost use Rattle.std.specs.Prelude.{◌++◌, ◌≡◌, IfOk, OnOk};
 
-use super::writing::{append_data, append_labeled, append_number, append_pair};
+use super::spelling::append_data;
+use super::writing::{append_labeled, append_number, append_pair};
 use ccfs_base::{Bytes, Name, NoMemory, Refusal, Reply};
 use std::alloc::Global;
 
 /// The line of a reply to an actor.
 pub fn reply_text(alloc: Global, actor: u8, reply: &Reply) -> Result<Bytes, NoMemory>
-    requires { IsTrue (is_printed reply.now) }
     ensures { IfOk result (λ text. text ≡ reply_line actor reply.now) }
 {
     let mut out = Bytes::new(alloc);
@@ -21,7 +21,6 @@ pub fn reply_text(alloc: Global, actor: u8, reply: &Reply) -> Result<Bytes, NoMe
 
 // Puts what a command was answered behind the text.
 fn append_answer(out: &mut Bytes, reply: &Reply) -> Result<(), NoMemory>
-    requires { IsTrue (is_printed reply.now) }
     ensures { OnOk result (out.new ≡ out.old ++ answer_text reply.now) }
 {
     match reply {

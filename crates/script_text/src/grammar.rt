@@ -1,12 +1,15 @@
 //! The lines of a script, each with what it asks for.
-ghost use Rattle.script_text.specs.Grammar.{actor_of, command_of, is_comment, meaning_of, one_path};
-ghost use Rattle.script_text.specs.Words.{words_of};
-ghost use Rattle.std.specs.Prelude.{◌≡◌, [], IfOk};
+ghost use Rattle.script_text.specs.Grammar.{IsLineWithin, call_of, is_comment, is_skipped, meaning_of};
+ghost use Rattle.script_text.specs.declared.grammar.LineFault.TheVariants.{BadLine};
+ghost use Rattle.script_text.specs.declared.reading.Unread.TheVariants.{At};
+ghost use Rattle.std.specs.Prelude.{ℕ, ◌≡◌, ◌-◌, ◌^◌, Err, IfErr, IfOk, Ok, min};
 
-use super::numbers::number;
-use super::words::next_word;
-use ccfs_base::{Command, NoMemory, Path, PathFault};
-use std::alloc::{AllocError, Global};
+use super::commands::parse_command;
+use super::reading::{Unread, take_byte};
+use super::words::Words;
+use ccfs_base::Command;
+use std::alloc::Global;
+use thiserror::Error;
 
 /// The greatest actor.
 pub const LAST_ACTOR: u8 = 63;
@@ -23,26 +26,48 @@ pub enum Line {
         /// What the actor does.
         command: Command,
     },
-    /// What isn't built, or isn't in the grammar.
-    NotBuilt,
 }
 
-/// What a line without its end asks for. Only a path takes memory.
-pub fn parse_line(alloc: Global, text: &[u8]) -> Result<Line, NoMemory>
-    ensures { IfOk result (λ line. line ≡ meaning_of (words_of text.now)) }
+/// Why a line asks for nothing.
+#[derive(Clone, Copy, Debug, PartialEq, Eq, Drop, Error)]
+pub enum LineFault {
+    /// It leaves the grammar. The place is that of the first word that doesn't fit, or the line's length where a word is
+    /// missing; it is `u32::MAX` where that is greater.
+    #[error("no command, at byte {place}")]
+    BadLine {
+        /// An index in bytes.
+        place: u32,
+    },
+    /// Memory was wanted. It says nothing of the line.
+    #[error("no memory")]
+    NoMemory,
+}
+
+/// What a line without its end asks for. Only paths and bytes take memory.
+pub fn parse_line(alloc: Global, text: &[u8]) -> Result<Line, LineFault>
+    ensures ok { IfOk result (λ line. meaning_of text.now ≡ Ok line) }
+    ensures within { IfOk result IsLineWithin }
+    ensures bad { IfErr result (λ fault. (place : ℕ) → fault ≡ BadLine place → (at : ℕ) × (meaning_of text.now ≡ Err at) × (place ≡ min at (2 ^ 32 - 1))) }
 {
-    let Some((first, rest)) = next_word(text) else {
-        return Ok(Line::Skip);
-    };
-    if begins_comment(first) {
+    if is_skipped(&mut Words::of(text)) {
         return Ok(Line::Skip);
     }
-    let Some(actor) = actor(first) else {
-        return Ok(Line::NotBuilt);
-    };
-    match parse_command(alloc, rest)? {
-        Some(command) => Ok(Line::Call { actor, command }),
-        None => Ok(Line::NotBuilt),
+    match parse_call(alloc, &mut Words::of(text)) {
+        Ok(line) => Ok(line),
+        Err(Unread::At { place }) => Err(LineFault::BadLine {
+            place: place.min(u32::MAX as usize) as u32,
+        }),
+        Err(Unread::NoMemory) => Err(LineFault::NoMemory),
+    }
+}
+
+// Whether a line is passed over.
+fn is_skipped(words: &mut Words<'_>) -> bool
+    ensures { result ≡ is_skipped words.old.words }
+{
+    match words.next_word() {
+        Some(word) => begins_comment(word.bytes),
+        None => true,
     }
 }
 
@@ -56,50 +81,13 @@ fn begins_comment(word: &[u8]) -> bool
     }
 }
 
-// The actor that a word names.
-fn actor(word: &[u8]) -> Option<u8>
-    ensures { result ≡ actor_of word.now }
+// The call that words ask for.
+fn parse_call(alloc: Global, words: &mut Words<'_>) -> Result<Line, Unread>
+    ensures ok { IfOk result (λ line. call_of words.old ≡ Ok line) }
+    ensures within { IfOk result IsLineWithin }
+    ensures at { IfErr result (λ fault. (place : ℕ) → fault ≡ At place → call_of words.old ≡ Err place) }
 {
-    let actor = number(word)?;
-    if actor <= u128::from(LAST_ACTOR) {
-        Some(actor as u8)
-    } else {
-        None
-    }
-}
-
-// The command that the words of a text are.
-fn parse_command(alloc: Global, text: &[u8]) -> Result<Option<Command>, NoMemory>
-    ensures { IfOk result (λ command. command ≡ command_of (words_of text.now)) }
-{
-    let Some((name, rest)) = next_word(text) else {
-        return Ok(None);
-    };
-    if name == b"mkdir".as_slice() {
-        return Ok(parse_path(alloc, rest)?.map(|path| Command::Mkdir { path }));
-    }
-    if name == b"create".as_slice() {
-        return Ok(parse_path(alloc, rest)?.map(|path| Command::Create { path }));
-    }
-    if name == b"streamsync".as_slice() && next_word(rest).is_none() {
-        return Ok(Some(Command::StreamSync));
-    }
-    Ok(None)
-}
-
-// The path that the words of a text are, where they are one word and that spells a path.
-fn parse_path(alloc: Global, text: &[u8]) -> Result<Option<Path>, NoMemory>
-    ensures { IfOk result (λ path. path ≡ one_path (words_of text.now)) }
-{
-    let Some((word, rest)) = next_word(text) else {
-        return Ok(None);
-    };
-    if next_word(rest).is_some() {
-        return Ok(None);
-    }
-    match Path::parse(alloc, word) {
-        Ok(path) => Ok(Some(path)),
-        Err(PathFault::BadPath { .. }) => Ok(None),
-        Err(PathFault::NoMemory) => Err(AllocError),
-    }
+    let actor = take_byte(words, LAST_ACTOR)?;
+    let command = parse_command(alloc, words)?;
+    Ok(Line::Call { actor, command })
 }

@@ -1,31 +1,44 @@
 //! The language of scripts, and the texts that are printed.
 //!
-//! It stands on `ccfs_base` for commands, paths and replies, on `tree_model` for the items of a picture, and on `itoa` for
-//! digits. It promises that a script is read as the definitions of `specs/` say, by recursion on its bytes: its lines,
+//! It stands on `ccfs_base` for commands, paths and replies, on `tree_model` for the items of a picture, and on `itoa` and
+//! `hex` for digits. It promises that a script is read as the definitions of `specs/` say, by recursion on its bytes: its lines,
 //! their words, what each line asks for, and the calls of the whole; and that each printed text is exactly the line that
 //! is defined there. Cutting a text into lines and words and reading a number take no memory.
 #![tactic(auto)]
 
 mod answers;
+mod commands;
+#[cfg(test)]
+mod data_tests;
+mod data_words;
 mod grammar;
+#[cfg(test)]
+mod grammar_tests;
 mod lines;
 mod numbers;
 mod pictures;
+mod reading;
+#[cfg(test)]
+mod round_tests;
 mod scripts;
+mod spelling;
 #[cfg(test)]
 mod tests;
 mod texts;
+mod verbs;
 mod words;
 mod writing;
 
 pub use answers::reply_text;
-pub use grammar::{LAST_ACTOR, Line, parse_line};
+pub use data_words::{MOST_DATA, parse_data};
+pub use grammar::{LAST_ACTOR, Line, LineFault, parse_line};
 pub use lines::{count_lines, next_line};
 pub use numbers::number;
-pub use pictures::tree_text;
-pub use scripts::{Call, MOST_BYTES, MOST_LINES, ScriptFault, parse_script};
-pub use texts::{
-    bad_image_text, disk_fault_text, memory_fault_text, not_built_text, script_fault_text,
-    too_long_text, usage_text,
+pub use pictures::{item_text, tree_text};
+pub use scripts::{
+    Call, MOST_BYTES, MOST_LINES, MOST_SCRIPT_DATA, ScriptFault, is_built, parse_script,
 };
-pub use words::next_word;
+pub use texts::{
+    bad_image_text, bad_line_text, disk_fault_text, made_text, memory_fault_text, not_built_text,
+    script_fault_text, too_long_text, usage_text,
+};

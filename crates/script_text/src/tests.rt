@@ -1,19 +1,13 @@
 //! What no clause says: that the definitions mean the lines, words and texts that are written here by hand.
-ghost use Rattle.script_text.specs.Texts.{is_printed};
-ghost use Rattle.std.specs.Prelude.{IsTrue};
-
 use super::answers::reply_text;
-use super::grammar::{Line, parse_line};
 use super::lines::{count_lines, next_line};
 use super::numbers::number;
 use super::pictures::tree_text;
-use super::scripts::{ScriptFault, parse_script};
 use super::texts::{
-    bad_image_text, disk_fault_text, memory_fault_text, not_built_text, script_fault_text,
-    too_long_text, usage_text,
+    bad_image_text, bad_line_text, disk_fault_text, made_text, memory_fault_text, not_built_text,
+    script_fault_text, too_long_text, usage_text,
 };
-use super::words::next_word;
-use ccfs_base::{Bytes, Command, Name, Names, Refusal, Reply};
+use ccfs_base::{Bytes, Name, Names, Refusal, Reply};
 use std::alloc::{AllocError, Global};
 use std::process::Abort;
 use std::test::Fail;
@@ -35,16 +29,6 @@ fn a_line_ends_with_a_line_feed_or_the_script(rt: HostRuntime) {
 }
 
 #[test]
-fn blanks_and_tabs_separate_words(rt: HostRuntime) {
-    assert_eq!(rt;
-        next_word(b" \tab\t c"),
-        Some((b"ab".as_slice(), b"\t c".as_slice()))
-    );
-    assert_eq!(rt; next_word(b"ab"), Some((b"ab".as_slice(), b"".as_slice())));
-    assert!(rt; next_word(b" \t ").is_none());
-}
-
-#[test]
 fn a_number_is_1_to_20_digits(rt: HostRuntime) {
     assert_eq!(rt; number(b"0063"), Some(63));
     assert_eq!(rt; number(b"00000000000000000007"), Some(7));
@@ -62,99 +46,12 @@ fn a_number_is_1_to_20_digits(rt: HostRuntime) {
     }
 }
 
-#[test]
-fn a_line_without_words_or_behind_a_hash_is_skipped(rt: HostRuntime) -> Result<(), Fail> {
-    for text in [
-        b"".as_slice(),
-        b" \t".as_slice(),
-        b"# 0 mkdir /a".as_slice(),
-        b" #0 mkdir /a".as_slice(),
-    ] {
-        assert!(rt; matches!(parse_line(rt.alloc(), text)?, Line::Skip));
-    }
-    Ok(())
-}
-
-#[test]
-fn a_line_of_the_grammar_is_a_call(rt: HostRuntime) -> Result<(), Fail> {
-    let Line::Call {
-        actor: 63,
-        command: Command::Mkdir { path },
-    } = parse_line(rt.alloc(), b"\t0063  mkdir /a/b\t")?
-    else {
-        return Err("no mkdir of actor 63".into());
-    };
-    assert_eq!(rt; path.all(), b"/a/b".as_slice());
-    let Line::Call {
-        actor: 0,
-        command: Command::Create { path },
-    } = parse_line(rt.alloc(), b"0 create /")?
-    else {
-        return Err("no create of actor 0".into());
-    };
-    assert_eq!(rt; path.all(), b"/".as_slice());
-    assert!(rt;
-        matches!(
-            parse_line(rt.alloc(), b"7 streamsync")?,
-            Line::Call {
-                actor: 7,
-                command: Command::StreamSync
-            }
-        )
-    );
-    Ok(())
-}
-
-#[test]
-fn a_name_of_64_bytes_is_taken_and_one_of_65_refused(rt: HostRuntime) -> Result<(), Fail> {
-    let most = b"0 create /123456789_123456789_123456789_123456789_123456789_123456789_1234";
-    assert!(rt; matches!(parse_line(rt.alloc(), most)?, Line::Call { .. }));
-    let more = b"0 create /123456789_123456789_123456789_123456789_123456789_123456789_12345";
-    assert!(rt; matches!(parse_line(rt.alloc(), more)?, Line::NotBuilt));
-    Ok(())
-}
-
-#[test]
-fn a_line_outside_the_grammar_is_not_built(rt: HostRuntime) -> Result<(), Fail> {
-    for text in [
-        b"64 streamsync".as_slice(),
-        b"mkdir /a".as_slice(),
-        b"0".as_slice(),
-        b"0 create a".as_slice(),
-        b"0 create".as_slice(),
-        b"0 create /a /b".as_slice(),
-        b"0 streamsync 1".as_slice(),
-        b"0 mkdirs /a".as_slice(),
-        b"0 Create /a".as_slice(),
-        b"0 space".as_slice(),
-        b"0 create /a\r".as_slice(),
-    ] {
-        assert!(rt; matches!(parse_line(rt.alloc(), text)?, Line::NotBuilt));
-    }
-    Ok(())
-}
-
-#[test]
-fn the_lines_of_a_script_are_counted_from_1(rt: HostRuntime) -> Result<(), Fail> {
-    let calls = parse_script(rt.alloc(), b"# a tree\r\n\n0 mkdir /a\r\n1 streamsync")
-        .ok()
-        .ok_or("no calls")?;
-    assert_eq!(rt; calls.len(), 2);
-    assert_eq!(rt; (calls[0].line, calls[0].actor), (3, 0));
-    assert_eq!(rt; (calls[1].line, calls[1].actor), (4, 1));
-    let fault = parse_script(rt.alloc(), b"0 mkdir /a\n0 space\n0 flush\n").err();
-    assert_eq!(rt; fault, Some(ScriptFault::NotBuilt { line: 2 }));
-    Ok(())
-}
-
 fn assert_printed(
     rt: &impl Abort,
     alloc: Global,
     reply: &Reply,
     text: &[u8],
-) -> Result<(), AllocError>
-    requires { IsTrue (is_printed reply.now) }
-{
+) -> Result<(), AllocError> {
     assert_eq!(rt; reply_text(alloc, 63, reply)?.all(), text);
     Ok(())
 }
@@ -280,7 +177,7 @@ fn a_tree_is_printed_by_the_paths_of_its_items(rt: HostRuntime) -> Result<(), Fa
 }
 
 #[test]
-fn the_other_lines_are_printed_as_the_format_says(rt: HostRuntime) -> Result<(), Fail> {
+fn the_other_lines_are_printed_as_the_format_says(rt: HostRuntime) {
     for (text, want) in [
         (
             usage_text(),
@@ -290,13 +187,36 @@ fn the_other_lines_are_printed_as_the_format_says(rt: HostRuntime) -> Result<(),
         (script_fault_text(), b"fault: script\n".as_slice()),
         (disk_fault_text(), b"fault: disk\n".as_slice()),
         (memory_fault_text(), b"fault: memory\n".as_slice()),
-        (bad_image_text(), b"bad image Plain block 0\n".as_slice()),
-        (
-            not_built_text(rt.alloc(), 65_536)?.all(),
-            b"line 65536 not built\n".as_slice(),
-        ),
     ] {
         assert_eq!(rt; text, want);
+    }
+}
+
+#[test]
+fn the_lines_with_numbers_are_printed_as_the_format_says(rt: HostRuntime) -> Result<(), Fail> {
+    for (text, want) in [
+        (
+            not_built_text(rt.alloc(), 65_536)?,
+            b"line 65536 not built\n".as_slice(),
+        ),
+        (
+            bad_line_text(rt.alloc(), 7)?,
+            b"script line 7 is not a command\n".as_slice(),
+        ),
+        (
+            made_text(rt.alloc(), 512, 32, 246)?,
+            b"made 512 blocks 32 inodes 246 data blocks\n".as_slice(),
+        ),
+        (
+            bad_image_text(rt.alloc(), b"Size", 0)?,
+            b"bad image Size block 0\n".as_slice(),
+        ),
+        (
+            bad_image_text(rt.alloc(), b"Plain", 260)?,
+            b"bad image Plain block 260\n".as_slice(),
+        ),
+    ] {
+        assert_eq!(rt; text.all(), want);
     }
     Ok(())
 }

@@ -1,6 +1,6 @@
 //! Pieces of texts, each put behind the text so far. On an `Err` the text may have become longer.
-ghost use Rattle.script_text.specs.Texts.{data_text, has_data_text, labeled};
-ghost use Rattle.std.specs.Prelude.{◌++◌, ◌≡◌, IsTrue, OnOk, decimal};
+ghost use Rattle.script_text.specs.Texts.{labeled};
+ghost use Rattle.std.specs.Prelude.{◌++◌, ◌≡◌, OnOk, decimal};
 
 use ccfs_base::{Bytes, NoMemory};
 use itoa::Buffer;
@@ -31,13 +31,4 @@ pub fn append_pair(
 {
     append_labeled(out, first.0, first.1)?;
     append_labeled(out, second.0, second.1)
-}
-
-/// Puts the text of bytes behind the text.
-pub fn append_data(out: &mut Bytes, bytes: &[u8]) -> Result<(), NoMemory>
-    requires { IsTrue (has_data_text bytes.now) }
-    ensures { OnOk result (out.new ≡ out.old ++ data_text bytes.now) }
-{
-    prove!(bytes.is_empty());
-    out.append(b"-")
 }

@@ -47,6 +47,14 @@ pub(crate) enum Says<'a> {
     No(Refusal),
 }
 
+/// The reply of most lines.
+pub(crate) const DONE: Says<'static> = Says::Done;
+
+/// The reply of a line that is refused.
+pub(crate) fn no(cause: Refusal) -> Says<'static> {
+    Says::No(cause)
+}
+
 /// A line of a tree, as a row writes it: the depth, the name and what it is.
 #[derive(Clone, Copy)]
 pub(crate) enum Shows<'a> {

@@ -1,44 +1,50 @@
-use Rattle.std.proofs.Common.{◌≡◌, ℕ, inl, inr, ap, sym, ◌∙◌, subst, refl, length}
-use Rattle.plain_image.specs.Opened.{opened}
-use Rattle.history_model.specs.Histories.{start}
-use Rattle.ccfs_top.specs.Runs.{Expected, plain_inodes, over_found, ran}
-use Rattle.ccfs_top.specs.Stops.{Decides, Grew}
-use Rattle.ccfs_top.proofs.Finishing.{fault_decides, grew_none}
+use Rattle.std.proofs.Common.{sym, subst}
+use Rattle.ccfs_top.specs.declared.stop.Stop.{Stop}
+use Rattle.ccfs_top.specs.Images.{Image, IsImage, Holds}
+use Rattle.ccfs_top.specs.Left.{Halts}
+use Rattle.ccfs_top.specs.Runs.{image_by, ran, over}
+use Rattle.ccfs_top.proofs.Finishing.{found_by, finds_refused, halts_refused, done_behind, halts_behind, if_ok, if_err}
 use Rattle.ccfs_top.proofs.finish.run_disk.Goals as goal
 
-pub returns-in-Err-clause-stopped : goal.returns-in-Err-clause-stopped
-returns-in-Err-clause-stopped g c = λ told.
-    let s = c.stop_of_read.result in
+pub returns-in-Err-clause-halts : goal.returns-in-Err-clause-halts
+returns-in-Err-clause-halts g c = λ told.
+    let d = g.D.Disk in
+    let fault = c.in-Err.refused.fault in
     let calls = c.args.calls.now in
-    elim c.stop_of_read.ensures.others [
-      | inl fault ↦
-          let found = g.D.Disk.seen c.args.disk in (
-            found,
-            record { from_start = g.met.D.Disk.may_leave_seen told c.args.disk; as_seen = λ _. refl },
-            fault_decides (over_found (length found) calls (opened found)) s fault,
-            λ _. grew_none (over_found (length found) calls (opened found)) s (g.K.Sink.held c.args.out.now) (inl fault) c.stop_of_read.ensures.no_sink,
-          )
-      | inr bad ↦
-          let f = c.in-Err.ensures.bad told (c.stop_of_read.ensures.image bad) in (
-            f.0,
-            f.1,
-            subst (Decides (over_found (length f.0) calls (opened f.0))) (sym bad) (ap (over_found (length f.0) calls) f.2),
-            λ _. grew_none (over_found (length f.0) calls (opened f.0)) s (g.K.Sink.held c.args.out.now) (inr bad) c.stop_of_read.ensures.no_sink,
-          )
-    ]
-
-pub returns-in-Err-run_session-clause-stopped : goal.returns-in-Err-run_session-clause-stopped
-returns-in-Err-run_session-clause-stopped g c = λ told.
-    let s = c.in-Ok.session in
-    let n = start s.tree in
-    let calls = c.args.calls.now in
-    let o = c.in-Ok.ensures.opened told in
-    let same : over_found (length o.0) calls (opened o.0) ≡ ran s.inodes (g.D.Disk.known s.disk) s.number n calls =
-    ap (over_found (length o.0) calls) o.2 ∙ ap (λ (z : ℕ). ran plain_inodes z s.number n calls) o.3
-    ∙ ap (λ (z : ℕ). ran z (g.D.Disk.known s.disk) s.number n calls) (sym c.in-Ok.ensures.inodes) in (
-      o.0,
-      o.1,
-      subst (λ (z : Expected). Decides z c.in-Err-run_session.fault) (sym same) (c.in-Err-run_session.ensures.decides told),
-      λ sink_told. subst (λ (z : Expected). Grew z c.in-Err-run_session.fault (g.K.Sink.held c.args.out.now) (g.K.Sink.held c.run_session.new.out)) (sym same)
-          (c.in-Err-run_session.ensures.grew told sink_told),
+    let text = g.K.Sink.held c.args.out.now in
+    let was = c.in-Err.ensures.refuses told in (
+      was.contents,
+      record { from_start = was.one_of_them; as_seen = was.as_seen },
+      (
+        found_by fault,
+        finds_refused IsImage was.contents fault was.says,
+        subst (λ (z : Stop). Halts d c.args.disk c.in-Err.refused.kept calls (found_by fault) (over (λ (image : Image). ran image calls) (found_by fault)) z g.K.Sink.tells text text)
+            (sym c.stop_of_open.ensures) (halts_refused d c.args.disk c.in-Err.refused.kept calls fault g.K.Sink.tells text (c.in-Err.ensures.quiet told)),
+      ),
     )
+
+pub returns-clause-done : goal.returns-clause-done
+returns-clause-done g c = λ told.
+    let d = g.D.Disk in
+    let s = c.in-Ok.session in
+    let calls = c.args.calls.now in
+    let image = image_by s.number s.tree s.volume.geometry s.volume.half s.volume.volume.items in
+    let o = c.in-Ok.ensures.opened told in
+    let old = g.K.Sink.held c.args.out.now in
+    let new = g.K.Sink.held c.run_session.new.out in
+    if_ok c.run_session.result _ _
+    (λ done is. (o.0, o.1, (image, o.2, done_behind d c.args.disk s.volume.disk done.disk calls image done.batches g.K.Sink.tells old new (g.met.D.Disk.counts_now told) (c.in-Ok.ensures.quiet told) is)))
+    (c.run_session.ensures.done told)
+
+pub returns-clause-halts : goal.returns-clause-halts
+returns-clause-halts g c = λ told.
+    let d = g.D.Disk in
+    let s = c.in-Ok.session in
+    let calls = c.args.calls.now in
+    let image = image_by s.number s.tree s.volume.geometry s.volume.half s.volume.volume.items in
+    let o = c.in-Ok.ensures.opened told in
+    let old = g.K.Sink.held c.args.out.now in
+    let new = g.K.Sink.held c.run_session.new.out in
+    if_err c.run_session.result _ _
+    (λ refused is. (o.0, o.1, (Holds image, o.2, halts_behind d c.args.disk s.volume.disk refused.kept calls image refused.fault g.K.Sink.tells old new (g.met.D.Disk.counts_now told) (c.in-Ok.ensures.quiet told) is)))
+    (c.run_session.ensures.halts told)

@@ -1,88 +1,64 @@
-use Rattle.std.proofs.Common.{◌≡◌, ◌++◌, ℕ, List, inl, inr, ap, sym, ◌∙◌, subst, append_assoc}
-use Rattle.std.specs.Prelude.{IfOk, IfErr, OnOk}
+use Rattle.std.proofs.Common.{◌≡◌, ◌++◌, ℕ, List, false, ap, ◌∙◌, subst, append_assoc}
 use Rattle.std.specs.declared.result.Result.TheVariants.{Err}
 use Rattle.tree_model.specs.Picture.{picture}
 use Rattle.history_model.specs.Histories.{start, durable, tree_at}
 use Rattle.script_text.specs.Trees.{tree_lines}
+use Rattle.std.specs.declared.option.Option.TheVariants.{Some}
+use Rattle.gate_journal.specs.Runs.{Quiet}
+use Rattle.atomic_volume.specs.Opening.{is_unbuilt}
+use Rattle.recovery.specs.Pictures.{shown}
 use Rattle.ccfs_top.specs.Ends.{joined}
-use Rattle.ccfs_top.specs.Runs.{Expected, further, final_history, replies, finished, ran}
+use Rattle.ccfs_top.specs.Runs.{further, image_by, final_history, replies}
 use Rattle.ccfs_top.specs.Stages.{sizes}
-use Rattle.ccfs_top.specs.Stops.{Decides, Grew, IsFaultStop}
-use Rattle.ccfs_top.proofs.Finishing.{on_ok, if_err, ran_done, ran_replies, fault_decides, halted_decides, grew_tree, grew_run}
+use Rattle.ccfs_top.proofs.Viewing.{shown_of}
+use Rattle.ccfs_top.proofs.Finishing.{kept_then, done_run, halts_tree}
 use Rattle.ccfs_top.proofs.finish.run_session.Goals as goal
 
-pub returns-in-Ok-clause-number : goal.returns-in-Ok-clause-number
-returns-in-Ok-clause-number g c = λ told.
-    let k = c.args.session.now.number in
-    let n = start c.args.session.now.tree in
-    let inodes = c.args.session.now.inodes in
-    let size = g.D.Disk.known c.args.session.now.disk in
-    let h = final_history inodes size n c.args.calls.now in
-    subst (λ (z : Expected). IfOk c.write_tree.result (λ x. x ≡ z.batches)) (sym (ran_done inodes size k n c.args.calls.now c.in-Ok.ensures.done))
-    (c.write_tree.ensures.number told (further k (durable h)) (picture (tree_at (sizes inodes) n h (durable h))) (c.in-Ok.ensures.shows told))
+pub returns-in-Ok-write_shown-clause-done : goal.returns-in-Ok-write_shown-clause-done
+returns-in-Ok-write_shown-clause-done g c = λ told.
+    let d = g.D.Disk in
+    let s = c.args.session in
+    let calls = c.args.calls.now in
+    let image = image_by s.number s.tree s.volume.geometry s.volume.half s.volume.volume.items in
+    let h = final_history image calls in
+    let number = further s.number (durable h) in
+    let items = picture (tree_at (sizes s.volume.geometry.inodes) (start s.tree) h (durable h)) in
+    let v = c.perform_all.new.session.volume in
+    let disk = c.end-disk.result in
+    let new = c.write_shown.new.disk in
+    let is : disk ≡ v.disk = c.end-disk.ensures in
+    let settled : d.in_doubt disk ≡ false = ap d.in_doubt is ∙ v.settled told c.in-Ok.ensures.working in
+    let holds = v.sound told c.in-Ok.ensures.working (d.seen v.disk) (g.met.D.Disk.may_leave_seen told v.disk) in
+    let shows : shown (d.seen disk) ≡ Some (number, items) = ap (λ x. shown (d.seen x)) is ∙ shown_of v.geometry v.half v.volume.items (d.seen v.disk) number items holds c.in-Ok.ensures.shows in
+    let old_text = g.K.Sink.held c.args.out.now in
+    let lines = joined (replies image calls) in
+    let last = tree_lines number items in
+    done_run d s.volume.disk new image calls c.in-Ok-write_shown.batches g.K.Sink.tells old_text (g.K.Sink.held c.write_shown.new.out) c.in-Ok.ensures.done
+    (c.in-Ok-write_shown.ensures.number told settled number items shows)
+    (kept_then d s.volume.disk v.disk new image calls _ (g.met.D.Disk.counts_now told) (c.in-Ok.ensures.kept told) (subst (λ x. Quiet d x new) is (c.in-Ok-write_shown.ensures.quiet told)))
+    (λ sink_told. c.in-Ok-write_shown.ensures.text told sink_told settled number items shows ∙ ap (λ (z : List ℕ). z ++ last) (c.in-Ok.ensures.text sink_told) ∙ append_assoc old_text lines last)
 
-pub returns-in-Ok-clause-text : goal.returns-in-Ok-clause-text
-returns-in-Ok-clause-text g c = λ disk_told told.
-    let k = c.args.session.now.number in
-    let n = start c.args.session.now.tree in
-    let inodes = c.args.session.now.inodes in
-    let size = g.D.Disk.known c.args.session.now.disk in
-    let h = final_history inodes size n c.args.calls.now in
-    let old = g.K.Sink.held c.args.out.now in
-    let mid = g.K.Sink.held c.perform_all.new.out in
-    let new = g.K.Sink.held c.write_tree.new.out in
-    let last = tree_lines (further k (durable h)) (picture (tree_at (sizes inodes) n h (durable h))) in
-    let all = joined (replies inodes size n c.args.calls.now) in
-    subst (λ (z : Expected). OnOk c.write_tree.result (new ≡ old ++ (joined z.replies ++ z.last))) (sym (ran_done inodes size k n c.args.calls.now c.in-Ok.ensures.done))
-    (on_ok c.write_tree.result (new ≡ mid ++ last) (new ≡ old ++ (all ++ last)) (λ more. more ∙ ap (λ (z : List ℕ). z ++ last) (c.in-Ok.ensures.text told) ∙ append_assoc old all last)
-    (c.write_tree.ensures.text disk_told told (further k (durable h)) (picture (tree_at (sizes inodes) n h (durable h))) (c.in-Ok.ensures.shows disk_told)))
-
-pub returns-in-Ok-clause-decides : goal.returns-in-Ok-clause-decides
-returns-in-Ok-clause-decides g c = λ told.
-    let k = c.args.session.now.number in
-    let n = start c.args.session.now.tree in
-    let inodes = c.args.session.now.inodes in
-    let size = g.D.Disk.known c.args.session.now.disk in
-    let h = final_history inodes size n c.args.calls.now in
-    if_err c.write_tree.result IsFaultStop (Decides (ran inodes size k n c.args.calls.now)) (fault_decides (ran inodes size k n c.args.calls.now))
-    (c.write_tree.ensures.fault told (further k (durable h)) (picture (tree_at (sizes inodes) n h (durable h))) (c.in-Ok.ensures.shows told))
-
-pub returns-in-Ok-clause-grew : goal.returns-in-Ok-clause-grew
-returns-in-Ok-clause-grew g c = λ disk_told told.
-    let k = c.args.session.now.number in
-    let n = start c.args.session.now.tree in
-    let inodes = c.args.session.now.inodes in
-    let size = g.D.Disk.known c.args.session.now.disk in
-    let h = final_history inodes size n c.args.calls.now in
-    let old = g.K.Sink.held c.args.out.now in
-    let new = g.K.Sink.held c.write_tree.new.out in
-    let shows = c.in-Ok.ensures.shows disk_told in
-    subst (λ (z : Expected). IfErr c.write_tree.result (λ s. Grew z s old new)) (sym (ran_done inodes size k n c.args.calls.now c.in-Ok.ensures.done))
-    (grew_tree c.write_tree.result (finished inodes k n h) old (g.K.Sink.held c.perform_all.new.out) new (c.in-Ok.ensures.text told)
-    (c.write_tree.ensures.fault disk_told (further k (durable h)) (picture (tree_at (sizes inodes) n h (durable h))) shows)
-    (c.write_tree.ensures.sink disk_told told (further k (durable h)) (picture (tree_at (sizes inodes) n h (durable h))) shows)
-    (c.write_tree.ensures.unwritten told))
-
-pub returns-in-Err-clause-decides : goal.returns-in-Err-clause-decides
-returns-in-Err-clause-decides g c = λ told.
-    let k = c.args.session.now.number in
-    let n = start c.args.session.now.tree in
-    let inodes = c.args.session.now.inodes in
-    let size = g.D.Disk.known c.args.session.now.disk in
-    elim c.stop_of_run.ensures.others [
-      | inl fault ↦ fault_decides (ran inodes size k n c.args.calls.now) c.stop_of_run.result fault
-      | inr halt ↦ halted_decides inodes size k n c.args.calls.now c.stop_of_run.result halt.0 halt.1
-          (c.in-Err.ensures.blocked halt.0 (ap (λ z. Err z) ((c.stop_of_run.ensures.not_built halt.0).1 halt.1))).0
-    ]
-
-pub returns-in-Err-clause-grew : goal.returns-in-Err-clause-grew
-returns-in-Err-clause-grew g c = λ disk_told told.
-    let k = c.args.session.now.number in
-    let n = start c.args.session.now.tree in
-    let inodes = c.args.session.now.inodes in
-    let size = g.D.Disk.known c.args.session.now.disk in
-    grew_run (ran inodes size k n c.args.calls.now) (replies inodes size n c.args.calls.now) c.stop_of_run.result (g.K.Sink.held c.args.out.now) (g.K.Sink.held c.perform_all.new.out)
-    (ran_replies inodes size k n c.args.calls.now) c.stop_of_run.ensures.others
-    (λ is. (c.in-Err.ensures.sink (ap (λ z. Err z) (c.stop_of_run.ensures.sink.1 is))).1 told)
-    (λ not. c.in-Err.ensures.cut told (λ is. not (c.stop_of_run.ensures.sink.0 (cc is))))
-    (λ line is. (c.in-Err.ensures.blocked line (ap (λ z. Err z) ((c.stop_of_run.ensures.not_built line).1 is))).1 told)
+pub returns-in-Err-write_shown-clause-halts : goal.returns-in-Err-write_shown-clause-halts
+returns-in-Err-write_shown-clause-halts g c = λ told.
+    let d = g.D.Disk in
+    let s = c.args.session in
+    let calls = c.args.calls.now in
+    let image = image_by s.number s.tree s.volume.geometry s.volume.half s.volume.volume.items in
+    let h = final_history image calls in
+    let number = further s.number (durable h) in
+    let items = picture (tree_at (sizes s.volume.geometry.inodes) (start s.tree) h (durable h)) in
+    let v = c.perform_all.new.session.volume in
+    let disk = c.end-disk.result in
+    let new = c.write_shown.new.disk in
+    let is : disk ≡ v.disk = c.end-disk.ensures in
+    let settled : d.in_doubt disk ≡ false = ap d.in_doubt is ∙ v.settled told c.in-Ok.ensures.working in
+    let holds = v.sound told c.in-Ok.ensures.working (d.seen v.disk) (g.met.D.Disk.may_leave_seen told v.disk) in
+    let shows : shown (d.seen disk) ≡ Some (number, items) = ap (λ x. shown (d.seen x)) is ∙ shown_of v.geometry v.half v.volume.items (d.seen v.disk) number items holds c.in-Ok.ensures.shows in
+    let built : is_unbuilt (d.seen disk) ≡ false = ap (λ x. is_unbuilt (d.seen x)) is ∙ holds.built in
+    let e = c.in-Err-write_shown.ensures in
+    halts_tree d s.volume.disk new image calls c.in-Err-write_shown.fault g.K.Sink.tells (g.K.Sink.held c.args.out.now) (g.K.Sink.held c.perform_all.new.out) (g.K.Sink.held c.write_shown.new.out) c.in-Ok.ensures.done
+    (e.fault told settled built number items shows)
+    (kept_then d s.volume.disk v.disk new image calls _ (g.met.D.Disk.counts_now told) (c.in-Ok.ensures.kept told) (subst (λ x. Quiet d x new) is (e.quiet told)))
+    (λ sink_told. c.in-Ok.ensures.text sink_told)
+    (λ sink_told cause. e.sink told sink_told settled number items shows (ap (λ z. Err z) cause))
+    (λ sink_told not. e.unwritten sink_told (λ no. not (cc no)))

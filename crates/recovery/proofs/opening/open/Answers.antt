@@ -50,3 +50,11 @@ returns-in-Err-start-clause-refuses g c = λ told.
       as_seen = was.as_seen;
       says = c.of_volume-in-Err-start.ensures.says (d.seen f.disk) (subst (Refuses (d.seen f.disk)) (sym c.in-Err-start.ensures.device.0) tt);
     }
+
+pub returns-in-Ok-start-clause-held : goal.returns-in-Ok-start-clause-held
+returns-in-Ok-start-clause-held g c =
+    let f = c.in-Ok.found in
+    let held = c.in-Ok-tree_in.held in
+    let same : where_last c.last.result (tree_spelled c.bytes.result.now) ≡ tree_held (contents_by f.geometry f.half f.volume.items)
+    = ap (λ (n : Option ℕ). where_last n (tree_spelled c.bytes.result.now)) c.last.ensures ∙ ap (λ (l : List ℕ). where_last (journal_of f.half).last (tree_spelled l)) c.bytes.ensures in
+    ap tree_held c.in-Ok-start.ensures.contents ∙ sym same ∙ c.in-Ok-tree_in.ensures

@@ -1,4 +1,4 @@
-use Rattle.std.proofs.Common.{ℕ, List, sym, subst}
+use Rattle.std.proofs.Common.{ℕ, List, sym, ap, ◌∙◌, subst}
 use Rattle.plain_image.specs.Opened.{opened as tree_spelled}
 use Rattle.plain_image.specs.Reading.{Explains}
 use Rattle.atomic_volume.specs.Seen.{contents_seen}
@@ -17,3 +17,6 @@ returns-clause-says g c = λ told settled.
     subst (Says seen) (sym c.of_plain.ensures)
     (plain_says seen (contents_seen looked) c.in-Err-tree_in.fault (c.in-Ok.ensures.opens told settled) (c.in-Ok.ensures.built told settled)
     (subst (λ (l : List ℕ). Explains (where_last looked.last (tree_spelled l)) c.in-Err-tree_in.fault) c.all.ensures c.in-Err-tree_in.ensures))
+
+pub returns-in-Ok-tree_in-clause-held : goal.returns-in-Ok-tree_in-clause-held
+returns-in-Ok-tree_in-clause-held g c = (contents_seen c.in-Ok.looked, ap (λ (l : List ℕ). where_last c.in-Ok.looked.last (tree_spelled l)) (sym c.all.ensures) ∙ c.in-Ok-tree_in.ensures)

@@ -1,13 +1,43 @@
-use Rattle.std.proofs.Common.{length, arith, ap, List, ℕ}
-use Rattle.ccfs_top.proofs.Performing.{synced_sealed, blocked_sync}
+use Rattle.std.proofs.Common.{◌+◌, ℕ, Bool, length, arith, rules, sym, subst}
+use Rattle.gate_journal.specs.Halves.{journal_of}
+use Rattle.gate_journal.specs.Runs.{LeavesBy}
+use Rattle.tree_model.specs.Picture.{picture}
+use Rattle.tree_model.specs.Rows.{Rows}
+use Rattle.ccfs_base.specs.declared.replies.Reply.TheVariants.{Synced}
+use Rattle.ccfs_base.specs.declared.commands.Command.TheVariants.{StreamSync}
+use Rattle.ccfs_top.specs.Runs.{further}
+use Rattle.ccfs_top.specs.Stages.{room_in, commits}
+use Rattle.ccfs_top.specs.Sessions.{Answered, EitherShown}
+use Rattle.ccfs_top.proofs.Committing.{stays_shown}
+use Rattle.ccfs_top.proofs.Performing.{synced_sealed, blocked_sync, sync_commits}
 use Rattle.ccfs_top.proofs.session.Session.sync.Goals as goal
 
-pub returns-then-len-known_size-clause-blocked : goal.returns-then-len-known_size-clause-blocked
-returns-then-len-known_size-clause-blocked g c = λ n actor stands is.
-    let long = ap (λ (z : List ℕ). length z) c.in-Ok.ensures.bytes in
-    blocked_sync c.args.self.now.inodes n c.args.self.now.tree (g.D.Disk.known c.args.self.now.disk) 0 c.args.self.now.seals c.args.self.now.unsealed actor stands (omega arith) (omega (arith, long))
+pub returns-then-self-eq0-clause-moments : goal.returns-then-self-eq0-clause-moments
+returns-then-self-eq0-clause-moments g c = λ told n actor items stands shows.
+    let s = c.args.self.now in let v = s.volume in
+    stays_shown g.D.Disk v.geometry v.half v.volume.items (s.number, items) shows v.disk (v.sound told c.requires.working) (commits n actor StreamSync)
+    (further s.number 1, picture s.tree) (g.met.D.Disk.earlier told v.disk) (g.met.D.Disk.only_now told v.disk)
+
+pub returns-in_err-commit-clause-blocked : goal.returns-in_err-commit-clause-blocked
+returns-in_err-commit-clause-blocked g c = λ n actor stands is.
+    let s = c.args.self.now in let v = s.volume in
+    blocked_sync v.geometry.inodes n s.tree (length v.volume.items) (room_in (journal_of v.half)) s.seals s.unsealed actor stands (omega arith) (c.commit.ensures.blocked (search rules))
+
+pub returns-in_err-commit-clause-moments : goal.returns-in_err-commit-clause-moments
+returns-in_err-commit-clause-moments g c = λ told n actor items stands shows.
+    let s = c.args.self.now in
+    subst (λ (b : Bool). LeavesBy g.D.Disk s.volume.disk c.commit.new.self.volume.disk (EitherShown b (s.number, items) (further s.number 1, picture s.tree))) (sym (sync_commits n s.tree s.seals s.unsealed actor stands (omega arith)))
+    (c.commit.ensures.moments told items shows)
 
 pub returns-clause-ok : goal.returns-clause-ok
 returns-clause-ok g c = λ n actor stands.
-    let long = ap (λ (z : List ℕ). length z) c.in-Ok.ensures.bytes in
-    synced_sealed c.args.self.now.inodes n c.args.self.now.tree (g.D.Disk.known c.args.self.now.disk) 0 c.args.self.now.seals c.args.self.now.unsealed actor stands (omega arith) (omega (arith, long))
+    let s = c.args.self.now in let v = s.volume in let room = room_in (journal_of v.half) in let left = room_in (journal_of c.commit.new.self.volume.half) in
+    subst (λ (k : ℕ). Answered v.geometry.inodes (length v.volume.items) room n actor StreamSync (Synced (k + 1)) c.commit.new.self.tree (k + 1) 0 left) (sym c.commit.ensures.seals)
+    (subst (λ (t : Rows). Answered v.geometry.inodes (length v.volume.items) room n actor StreamSync (Synced (s.seals + 1)) t (s.seals + 1) 0 left) (sym c.commit.ensures.tree)
+    (synced_sealed v.geometry.inodes n s.tree (length v.volume.items) room left s.seals s.unsealed actor stands (omega arith) c.in_ok-commit.ensures.accepted c.in_ok-commit.ensures.room))
+
+pub returns-clause-moments : goal.returns-clause-moments
+returns-clause-moments g c = λ told n actor items stands shows.
+    let s = c.args.self.now in
+    subst (λ (b : Bool). LeavesBy g.D.Disk s.volume.disk c.commit.new.self.volume.disk (EitherShown b (s.number, items) (further s.number 1, picture s.tree))) (sym (sync_commits n s.tree s.seals s.unsealed actor stands (omega arith)))
+    (c.commit.ensures.moments told items shows)

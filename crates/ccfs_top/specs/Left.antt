@@ -1,0 +1,90 @@
+-- What the rows of the command line leave on the disk, at any moment and in the end.
+use Rattle.std.specs.Prelude.{◌≡◌, ◌⊎◌, ℕ, ◌+◌, ◌≤◌, Some, List, ◌++◌, length}
+use Rattle.disk_model.specs.declared.disk.Disk.{Ghosts}
+use Rattle.disk_model.specs.Moments.{Only}
+use Rattle.block_layout.specs.declared.geometry.Geometry.{Geometry}
+use Rattle.recovery.specs.Fresh.{IsFresh}
+use Rattle.script_text.specs.Scripts.{calls_of}
+use Rattle.tree_model.specs.Rows.{Rows}
+use Rattle.tree_model.specs.declared.rows.Entry.{Entry}
+use Rattle.tree_model.specs.Picture.{picture}
+use Rattle.history_model.specs.Histories.{start, seal_count, tree_at, durable}
+use Rattle.script_text.specs.declared.scripts.Call.{Call}
+use Rattle.gate_journal.specs.Runs.{LeavesBy, Quiet}
+use Rattle.recovery.specs.Pictures.{shown}
+use Rattle.ccfs_top.specs.Stages.{sizes}
+use Rattle.ccfs_top.specs.declared.stop.Stop.{Stop}
+use Rattle.ccfs_top.specs.Found.{IsFound}
+use Rattle.ccfs_top.specs.Images.{Image, IsImage, Finding, Holds, Spoilt, Unread, Finds, RecoversTo}
+use Rattle.ccfs_top.specs.Runs.{Expected, further, ran, calls_in, expected, over, printed}
+use Rattle.ccfs_top.specs.Ends.{EndsWith, Wrote, joined}
+use Rattle.ccfs_top.specs.Stops.{Decides, Grew}
+use Rattle.ccfs_top.specs.Reached.{history_to}
+
+-- Bytes within a history over an image: they show the picture of the tree after one of its seals, with the number of that
+-- seal behind the image's. The first `least` seals are in it. With `least` 1, two seals, and an image with the number 5, the
+-- number is 6 or 7.
+pub record Within (image : Image) (h : List Entry) (least : ℕ) (c : List ℕ) : Type 0 where
+  pub cut : ℕ
+  pub enough : least ≤ cut
+  pub few : cut ≤ seal_count (sizes image.inodes) (start image.tree) h
+  pub shows : shown c ≡ Some (further image.number cut, picture (tree_at (sizes image.inodes) (start image.tree) h cut))
+
+-- the history of the first of these calls over an image
+abbrev pub first_history : Image → List Call → ℕ → List Entry
+first_history image calls i = history_to image.inodes (start image.tree) calls i
+
+-- What a session that opened leaves, where so many whole reply lines were written. At every moment a crash leaves what it
+-- might have left at the start, or an image within the history of the calls up to the one behind those lines. In the end it
+-- leaves one with each sync that those lines acknowledge.
+pub record Kept {X : Type 0} (d : Ghosts X) (old new : X) (image : Image) (calls : List Call) (lines : ℕ) : Type 0 where
+  pub ever : LeavesBy d old new (λ c. d.may_leave old c ⊎ Within image (first_history image calls (lines + 1)) 0 c)
+  pub now : (c : List ℕ) → d.may_leave new c → Within image (first_history image calls (lines + 1)) (durable (first_history image calls lines)) c
+
+-- what a run leaves, by what it found: without a session it only reads
+abbrev pub Leaves : {X : Type 0} → Ghosts X → X → X → List Call → Finding Image → ℕ → Type 0
+Leaves d old new calls (Holds image) lines = Kept d old new image calls lines
+Leaves d old new calls (Spoilt kind block) lines = Quiet d old new
+Leaves d old new calls Unread lines = Quiet d old new
+
+-- A stop of a run over what was found: what was expected has it, and so many whole reply lines were written.
+pub record Halts {X : Type 0} (d : Ghosts X) (old new : X) (calls : List Call) (seen : Finding Image) (e : Expected) (stop : Stop) (sink_tells : Type 0) (text0 text1 : List ℕ) : Type 0 where
+  pub lines : ℕ
+  pub few : lines ≤ length e.replies
+  pub decides : Decides e stop
+  pub leaves : Leaves d old new calls seen lines
+  pub grew : sink_tells → Grew e stop lines text0 text1
+
+-- A run over an image that came to its end, with this number.
+pub record Done {X : Type 0} (d : Ghosts X) (old new : X) (calls : List Call) (image : Image) (number : ℕ) (sink_tells : Type 0) (text0 text1 : List ℕ) : Type 0 where
+  pub status : (ran image calls).status ≡ 0
+  pub batches : number ≡ (ran image calls).batches
+  pub kept : Kept d old new image calls (length (ran image calls).replies)
+  pub text : sink_tells → text1 ≡ text0 ++ (joined (ran image calls).replies ++ (ran image calls).last)
+
+-- A run of a script: what it found on the disk, how it ended, what it left there, and what it wrote.
+pub record Ran {X : Type 0} (d : Ghosts X) (old new : X) (script : List ℕ) (sink_tells sink_failed : Type 0) (code number : ℕ) (text0 text1 : List ℕ) : Type 0 where
+  pub found : List ℕ
+  pub from_start : IsFound (d.may_leave old) (d.in_doubt old) (d.seen old) found
+  pub seen : Finding Image
+  pub finds : Finds IsImage found seen
+  pub lines : ℕ
+  pub ends : EndsWith (expected script seen) lines code number
+  pub leaves : Leaves d old new (calls_in (calls_of script)) seen lines
+  pub wrote : sink_tells → Wrote (expected script seen) sink_failed lines code text0 text1
+
+-- A tree that is printed, or why it isn't, where these were the contents of the disk.
+pub record Printed (contents : List ℕ) (sink_tells sink_failed : Type 0) (code number : ℕ) (text0 text1 : List ℕ) : Type 0 where
+  pub seen : Finding (ℕ × Rows)
+  pub finds : Finds RecoversTo contents seen
+  pub ends : EndsWith (over printed seen) 0 code number
+  pub wrote : sink_tells → Wrote (over printed seen) sink_failed 0 code text0 text1
+
+-- A stable image of so many blocks and inodes with no open batch, which recovers to the root alone with the number 0: a crash
+-- leaves it and nothing else.
+pub record IsNew {X : Type 0} (d : Ghosts X) (disk : X) (blocks inodes : ℕ) : Type 0 where
+  pub geometry : Geometry
+  pub blocks_are : geometry.blocks ≡ blocks
+  pub inodes_are : geometry.inodes ≡ inodes
+  pub fresh : IsFresh geometry (d.seen disk)
+  pub stable : Only (d.seen disk) (d.may_leave disk)

@@ -1,0 +1,9 @@
+pub mod Written
+pub mod MapView
+pub mod Places
+pub mod Indexed
+pub mod Scan
+pub mod First
+pub mod Listing
+pub mod Listed
+pub mod Directory

@@ -1,0 +1,5 @@
+use Rattle.image_model.proofs.SoundVolumes as volumes
+use Rattle.image_model.proofs.sound.sound_beside_batches.Goals as goal
+
+pub returns : goal.returns
+returns c = volumes.sound_beside_batches

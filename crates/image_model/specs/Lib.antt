@@ -1,0 +1,14 @@
+pub mod Fields
+pub mod Volumes
+pub mod Files
+pub mod Lowest
+pub mod Checks
+pub mod Trees
+pub mod Carrying
+pub mod Fresh
+pub mod Laws
+pub mod Reading
+pub mod SoundLaws
+pub mod Changes
+pub mod ChangeLaws
+pub mod CarriedLaws

@@ -1,0 +1,4 @@
+pub mod Clear
+pub mod Apart
+pub mod ByLists
+pub mod Hold

@@ -1,0 +1,11 @@
+use Rattle.std.proofs.Common.{rules, tests, ◌==◌, ◌||◌, vec_items}
+use Rattle.std.proofs.lemmas.Iterator.{YieldsList-from_slice}
+use Rattle.std.proofs.lemmas.Iterator.Consumers.{YieldsList-from_enumerate}
+use Rattle.std.proofs.lemmas.Iterator.Search.{all_from_yields_List}
+use Rattle.range_log.proofs.Clear.{is_free}
+use Rattle.range_log.proofs.log.are_untouched.Goals as goal
+
+pub returns : goal.returns
+returns c =
+    all_from_yields_List (λ log. log.0 == c.args.stream || is_free c.args.off c.args.len (vec_items log.1)) _ _ c.all.result c.all.ensures.ran
+    (YieldsList-from_enumerate (YieldsList-from_slice c.args.logs.now cc) cc) (λ x b q k. search (rules, tests))
