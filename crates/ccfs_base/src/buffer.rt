@@ -39,6 +39,13 @@ impl Bytes {
         })
     }
 
+    /// Its bytes, in the memory that they have. It takes no more.
+    pub fn into_vec(self) -> Vec<u8>
+        ensures { result.items ≡ self }
+    {
+        self.kept
+    }
+
     /// Puts a byte last. Without memory all is as before.
     pub fn push(&mut self, byte: u8) -> Result<(), NoMemory>
         ensures ok { OnOk result (self.new ≡ self.old ++ byte ∷ []) }

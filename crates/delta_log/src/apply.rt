@@ -20,7 +20,7 @@ pub fn apply_rec(base: &mut [u8], rec: &Rec)
 }
 
 /// Puts bytes at a place, over what stands there.
-fn superimpose(base: &mut [u8], off: usize, bytes: &[u8])
+pub fn superimpose(base: &mut [u8], off: usize, bytes: &[u8])
     requires { off + length bytes.now ≤ length base.old }
     ensures { base.new ≡ put base.old off bytes.now }
 {

@@ -3,6 +3,7 @@ ghost use Rattle.std.specs.Prelude.{◌≡◌, ◌<◌, ◌++◌, ℕ, [], ◌�
 ghost use Rattle.ccfs_base.specs.Rooms.{IsFirst};
 ghost use Rattle.ccfs_base.specs.Logs.{no_logs, IsCalled, IsTaken, AreSame};
 ghost use Rattle.record_logs.specs.Kept.{log_of, logs_of, call_by};
+ghost use Rattle.record_logs.specs.Held.{recs_of};
 ghost use Rattle.delta_log.specs.Deltas.{add_call, bit_call, is_delta, AreDeltas};
 
 use ccfs_base::{NoMemory, Rec};
@@ -94,12 +95,36 @@ impl DeltaLog {
         self.logs.add_room(stream, Rec::Bit { off, bit, on })
     }
 
+    /// Whether a call of `add` with these arguments is the first of the room.
+    pub fn is_first_add(&self, stream: u8, off: u64, by: i64) -> bool
+        ensures forth { result ≡ true → IsFirst (add_call stream off by) self.now.room }
+        ensures back { IsFirst (add_call stream off by) self.now.room → result ≡ true }
+    {
+        is_first(&self.logs, stream, &raise(off, by))
+    }
+
+    /// Whether a call of `bit` with these arguments is the first of the room.
+    pub fn is_first_bit(&self, stream: u8, off: u64, bit: u8, on: bool) -> bool
+        ensures forth { result ≡ true → IsFirst (bit_call stream off bit on) self.now.room }
+        ensures back { IsFirst (bit_call stream off bit on) self.now.room → result ≡ true }
+    {
+        is_first(&self.logs, stream, &Rec::Bit { off, bit, on })
+    }
+
     /// Empties the room. It takes no memory.
     pub fn clear_room(&mut self)
         ensures log { (s : ℕ) → log_of self.new s ≡ log_of self.old s }
         ensures room { self.new.room ≡ [] }
     {
         self.logs.clear_room();
+    }
+
+    /// The records of each stream, in the order in which they were logged, those of stream 0 first.
+    pub fn all(&self) -> &[Vec<Rec>]
+        ensures logs { recs_of result.now ≡ self.now.logs }
+        ensures streams { length result.now ≡ 64 }
+    {
+        self.logs.all()
     }
 
     /// How many records a stream has.

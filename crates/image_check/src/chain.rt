@@ -39,7 +39,7 @@ const FORMAT: usize = 24;
 const SLOTS_PER_BLOCK: u32 = 32;
 
 /// The number of 8 bytes at a place.
-fn long_at(volume: &[u8], place: usize) -> u64
+pub(crate) fn long_at(volume: &[u8], place: usize) -> u64
     requires { place + 8 ≤ length volume.now }
     ensures { result ≡ little_number 8 (drop place volume.now) }
 {

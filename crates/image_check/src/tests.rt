@@ -7,43 +7,43 @@ use std::alloc::Global;
 use std::test::Fail;
 
 /// A place of a volume, and the bytes that stand there.
-type Piece = (usize, &'static [u8]);
+pub(crate) type Piece = (usize, &'static [u8]);
 
 /// What an unused byte holds where the test wants to see that it isn't looked at.
-const GARBAGE: u8 = 0xEE;
+pub(crate) const GARBAGE: u8 = 0xEE;
 
 /// Where records 0 to 4 and slots 2 to 4 begin.
-const RECORD_0: usize = 12288;
+pub(crate) const RECORD_0: usize = 12288;
 
-const RECORD_1: usize = 12544;
+pub(crate) const RECORD_1: usize = 12544;
 
-const RECORD_2: usize = 12800;
+pub(crate) const RECORD_2: usize = 12800;
 
-const RECORD_3: usize = 13056;
+pub(crate) const RECORD_3: usize = 13056;
 
-const RECORD_4: usize = 13312;
+pub(crate) const RECORD_4: usize = 13312;
 
-const SLOT_2: usize = 20736;
+pub(crate) const SLOT_2: usize = 20736;
 
-const SLOT_3: usize = 20864;
+pub(crate) const SLOT_3: usize = 20864;
 
-const SLOT_4: usize = 20992;
+pub(crate) const SLOT_4: usize = 20992;
 
 /// The places of the counters, and of both blocks of bits.
-const NUMBER: usize = 0;
+pub(crate) const NUMBER: usize = 0;
 
-const FREE_BLOCKS: usize = 8;
+pub(crate) const FREE_BLOCKS: usize = 8;
 
-const FREE_INODES: usize = 16;
+pub(crate) const FREE_INODES: usize = 16;
 
-const FORMAT: usize = 24;
+pub(crate) const FORMAT: usize = 24;
 
-const BLOCK_BITS: usize = 4096;
+pub(crate) const BLOCK_BITS: usize = 4096;
 
-const INODE_BITS: usize = 8192;
+pub(crate) const INODE_BITS: usize = 8192;
 
 /// No data block is used. The last byte has bits 240 to 245, and two that no block has.
-const NO_BLOCKS: &[u8] = &[
+pub(crate) const NO_BLOCKS: &[u8] = &[
     0, 0, 0, 0, 0, 0, 0, 0, 0, 0, 0, 0, 0, 0, 0, 0, 0, 0, 0, 0, 0, 0, 0, 0, 0, 0, 0, 0, 0, 0, 0xC0,
 ];
 
@@ -69,7 +69,7 @@ const FILLED: [Piece; 17] = [
 ];
 
 /// Puts bytes at a place of a volume.
-fn put(volume: &mut [u8], place: usize, bytes: &[u8]) {
+pub(crate) fn put(volume: &mut [u8], place: usize, bytes: &[u8]) {
     for k in 0..bytes.len() {
         let at = place.saturating_add(k);
         if at < volume.len() {
@@ -79,7 +79,12 @@ fn put(volume: &mut [u8], place: usize, bytes: &[u8]) {
 }
 
 /// A volume that holds one byte everywhere, and then these pieces.
-fn volume(alloc: Global, geometry: &Geometry, byte: u8, pieces: &[Piece]) -> Result<Vec<u8>, Fail> {
+pub(crate) fn volume(
+    alloc: Global,
+    geometry: &Geometry,
+    byte: u8,
+    pieces: &[Piece],
+) -> Result<Vec<u8>, Fail> {
     let mut volume = vec![in alloc; byte; geometry.volume_bytes() as usize]?;
     for (place, bytes) in pieces {
         put(volume.as_mut_slice(), *place, bytes);
@@ -215,7 +220,7 @@ fn put_slot(volume: &mut [u8], inode: u32, parent: u32, name: u8) {
 }
 
 /// A chain of 500 directories.
-fn deep(alloc: Global, geometry: &Geometry) -> Result<Vec<u8>, Fail> {
+pub(crate) fn deep(alloc: Global, geometry: &Geometry) -> Result<Vec<u8>, Fail> {
     let mut deep = volume(alloc, geometry, 0, &DEEP)?;
     put(deep.as_mut_slice(), INODE_BITS, &[0xFF; 62]);
     for inode in 2..502_u32 {

@@ -7,7 +7,7 @@
 
 mod log;
 
-pub use log::RangeLog;
+pub use log::{RangeLog, have_common};
 
 #[cfg(test)]
 mod tests;

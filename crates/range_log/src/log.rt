@@ -5,6 +5,7 @@ ghost use Rattle.ccfs_base.specs.declared.records.Rec.TheVariants as recs;
 ghost use Rattle.ccfs_base.specs.Rooms.{IsFirst};
 ghost use Rattle.ccfs_base.specs.Logs.{no_logs, IsCalled, IsTaken, AreSame};
 ghost use Rattle.record_logs.specs.Kept.{log_of, logs_of};
+ghost use Rattle.record_logs.specs.Held.{recs_of};
 ghost use Rattle.range_log.specs.Ranges.{range_call, share, is_touched, is_clear_of, AreRanges, AreApartByStreams};
 
 use ccfs_base::{Bytes, NoMemory, Rec};
@@ -30,8 +31,8 @@ impl Model for RangeLog {
     ghost invariant = { λ a. IsHeld (log_of a.logs) };
 }
 
-/// Whether so many bytes from one place share a byte with so many from another.
-fn have_common(off: u64, len: u64, at: u64, size: u64) -> bool
+/// Whether so many bytes from one place share a byte with so many from another. No bytes share none.
+pub fn have_common(off: u64, len: u64, at: u64, size: u64) -> bool
     ensures { result ≡ share off len at size }
 {
     if off <= at {
@@ -141,6 +142,14 @@ impl RangeLog {
         self.logs.add_room(stream, rec)
     }
 
+    /// Whether a call of `put` with these arguments is the first of the room.
+    pub fn is_first_put(&self, stream: u8, off: u64, bytes: &[u8]) -> bool
+        ensures forth { result ≡ true → IsFirst (range_call stream off bytes.now) self.now.room }
+        ensures back { IsFirst (range_call stream off bytes.now) self.now.room → result ≡ true }
+    {
+        is_first(&self.logs, stream, off, bytes)
+    }
+
     /// Empties the room. It takes no memory.
     pub fn clear_room(&mut self)
         ensures log { (s : ℕ) → log_of self.new s ≡ log_of self.old s }
@@ -155,6 +164,14 @@ impl RangeLog {
         ensures { result ≡ is_clear_of (log_of self.now) stream off len }
     {
         are_untouched(self.logs.all(), stream, off, len)
+    }
+
+    /// The ranges of each stream, in the order in which they were put, those of stream 0 first.
+    pub fn all(&self) -> &[Vec<Rec>]
+        ensures logs { recs_of result.now ≡ self.now.logs }
+        ensures streams { length result.now ≡ 64 }
+    {
+        self.logs.all()
     }
 
     /// How many ranges a stream has.

@@ -1,5 +1,5 @@
 use Rattle.std.specs.Prelude.{Some, None}
-use Rattle.image_check.proofs.Placed.{found_is_lower}
+use Rattle.image_check.proofs.Lower.{found_is_lower}
 use Rattle.image_check.proofs.twins.has_lower.Goals as goal
 
 pub returns-in-Some : goal.returns-in-Some

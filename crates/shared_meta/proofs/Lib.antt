@@ -1,0 +1,11 @@
+pub mod Free
+pub mod Order
+pub mod AreaLaws
+pub mod RangeFirst
+pub mod Merged
+pub mod Called
+pub mod Held
+pub mod EachCall
+pub mod Unlogged
+pub mod Others
+pub mod Disturbed

@@ -1,0 +1,5 @@
+pub mod Area
+pub mod Laws
+pub mod Merged
+pub mod Held
+pub mod Spots
