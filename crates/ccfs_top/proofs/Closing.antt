@@ -10,7 +10,7 @@ use Rattle.tree_model.specs.Rows.{Rows}
 use Rattle.script_text.specs.declared.scripts.Call.{Call}
 use Rattle.script_text.specs.Scripts.{calls_of, first_unbuilt, is_long}
 use Rattle.script_text.specs.Texts.{usage_line, too_long_line, bad_image_line, bad_line_line, not_built_line, memory_fault_line}
-use Rattle.recovery.specs.Bad.{kind_name}
+use Rattle.image_check.specs.Kinds.{kind_name}
 use Rattle.ccfs_top.specs.declared.stop.Stop.{Stop}
 use Rattle.ccfs_top.specs.declared.stop.Stop.TheVariants.{Usage, Long, BadLine, NotBuilt, Source, Sink, Disk, BadImage, NoMemory}
 use Rattle.ccfs_top.specs.Ends.{IsSaid, IsFault, HasLine, Ends, EndsWith, Wrote, joined}

@@ -4,7 +4,6 @@ pub mod Weighing
 pub mod Said
 pub mod Performing
 pub mod Committing
-pub mod Opening
 pub mod Imaged
 pub mod Reading
 pub mod Steps

@@ -1,15 +1,16 @@
 -- What the entries of trees whose rows were made come to: their files take no blocks, and the greatest serial is one below
 -- the number of rows.
-use Rattle.std.proofs.Common.{◌≡◌, inl, inr, ℕ, suc, ◌+◌, ◌<◌, ◌≤◌, Bool, true, false, List, [], ◌∷◌, length, refl, sym, ap, ◌∙◌, arith}
+use Rattle.std.proofs.Common.{◌≡◌, inl, inr, ℕ, suc, ◌+◌, ◌<◌, ◌≤◌, Bool, true, false, cond, List, [], ◌∷◌, length, refl, sym, ap, ◌∙◌, subst, arith}
 use Rattle.std.specs.Prelude.{T}
 use Rattle.std.specs.List.{fold}
 use Rattle.std.specs.declared.cmp.Ordering.{Ordering}
 use Rattle.std.specs.declared.cmp.Ordering.TheVariants.{Less, Equal, Greater}
-use Rattle.std.specs.declared.option.Option.TheVariants.{Some}
-use Rattle.std.specs.Ordering.{nat_cmp, is_lt}
-use Rattle.std.specs.Cmp.{ranked}
-use Rattle.std.specs.FinMap.{get, entries, entries_sorted, is_sorted, len, len-entries}
-use Rattle.std.proofs.lemmas.Bool.{and_parts, cases_lt}
+use Rattle.std.specs.declared.option.Option.TheVariants.{None, Some}
+use Rattle.std.specs.Ordering.{nat_cmp, eq_by_cmp, is_lt, is_eq}
+use Rattle.std.specs.Cmp.{nat_cmp_total, eq_by_cmp_equiv, unsigned_tied, ranked}
+use Rattle.std.specs.FinMap.{get, find, entries, entries_sorted, is_sorted, get-entries, len, len-entries}
+use Rattle.std.specs.FinMap.Entries.{below_all}
+use Rattle.std.proofs.lemmas.Bool.{and_parts, cases_lt, eq-eqb}
 use Rattle.std.proofs.lemmas.Bool.Decides.{nat_tests}
 use Rattle.ccfs_base.specs.Limits.{blocks}
 use Rattle.tree_model.specs.declared.rows.Body.{Body}
@@ -19,8 +20,44 @@ use Rattle.tree_model.specs.Rows.{Rows}
 use Rattle.tree_model.specs.Weights.{body_bytes, live}
 use Rattle.history_model.specs.Answers.{larger}
 use Rattle.history_model.specs.Histories.{top_serial}
-use Rattle.plain_image.proofs.Kids.{EachEntry, rows_found}
-use Rattle.ccfs_top.specs.Made.{IsBareBody, IsMade}
+use Rattle.pending_rows.specs.Made.{IsBareBody, IsMade}
+
+-- P holds of each entry
+abbrev EachEntry : {K X : Type 0} → (K × X → Type 0) → List (K × X) → Type 0
+EachEntry P [] = Unit {0}
+EachEntry P (e ∷ es) = P e × EachEntry P es
+
+entry_weaker : {K X : Type 0} (P Q : K × X → Type 0) → ((e : K × X) → P e → Q e) → (es : List (K × X)) → EachEntry P es → EachEntry Q es
+entry_weaker P Q w [] h = tt
+entry_weaker P Q w (e ∷ es) h = (w e h.0, entry_weaker P Q w es h.1)
+
+-- ---- each entry of a map is found
+less_apart : (o : Ordering) → is_lt o ≡ true → is_eq o ≡ false
+less_apart Less p = refl
+less_apart Equal p = absurd (subst T (sym p) tt)
+less_apart Greater p = absurd (subst T (sym p) tt)
+
+above_apart : (x y : ℕ) → is_lt (nat_cmp x y) ≡ true → eq_by_cmp nat_cmp y x ≡ false
+above_apart x y p = (eq_by_cmp_equiv nat_cmp_total).symm y x ∙ less_apart (nat_cmp x y) p
+
+found_later : (e : ℕ × Row) (all es : List (ℕ × Row)) → below_all nat_cmp e.0 es ≡ true → EachEntry (λ f. find nat_cmp f.0 all ≡ Some f.1) es → EachEntry (λ f. find nat_cmp f.0 (e ∷ all) ≡ Some f.1) es
+found_later e all [] b h = tt
+found_later e all (f ∷ fs) b h =
+    let parts = and_parts _ _ b in
+    (ap (λ c. cond c (Some e.1) (find nat_cmp f.0 all)) (above_apart e.0 f.0 parts.0) ∙ h.0, found_later e all fs parts.1 h.1)
+
+each_found : (es : List (ℕ × Row)) → is_sorted nat_cmp es ≡ true → EachEntry (λ f. find nat_cmp f.0 es ≡ Some f.1) es
+each_found [] s = tt
+each_found (e ∷ es) s =
+    let parts = and_parts _ _ s in
+    (ap (λ c. cond c (Some e.1) (find nat_cmp e.0 es)) (unsigned_tied e.0 e.0 ∙ eq-eqb e.0 e.0 refl), found_later e es es parts.0 (each_found es parts.1))
+
+is_true : (b : Bool) → T b → b ≡ true
+is_true true t = refl
+is_true false t = absurd t
+
+rows_found : (t : Rows) → EachEntry (λ f. get t f.0 ≡ Some f.1) (entries t)
+rows_found t = entry_weaker (λ f. find nat_cmp f.0 (entries t) ≡ Some f.1) (λ f. get t f.0 ≡ Some f.1) (λ f p. get-entries t f.0 ∙ p) (entries t) (each_found (entries t) (is_true _ (entries_sorted t)))
 
 -- ---- blocks
 
@@ -78,14 +115,10 @@ top_long : (es : List (ℕ × Row)) → is_sorted nat_cmp es ≡ true → length
 top_long [] sorted = omega arith
 top_long (e ∷ es) sorted = let l = top_over e es sorted in omega (arith, l)
 
-is_true : (b : Bool) → T b → b ≡ true
-is_true true t = refl
-is_true false t = absurd t
-
 -- the next serial above all is the number of rows
 pub next_serial : (t : Rows) → IsMade t → suc (top_serial (entries t)) ≡ len t
 next_serial t made =
-    let some : 0 < len t = serial_under t made 0 made.root.0 made.root.1 in
+    let some : 0 < len t = serial_under t made 0 (record { parent = None; name = []; body = Dir made.tree.root.0 }) made.tree.root.1 in
     let under = top_under t made some (entries t) (rows_found t) in
     let over = top_long (entries t) (is_true _ (entries_sorted t)) in
     let all = len-entries t in

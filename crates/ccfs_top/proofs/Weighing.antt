@@ -15,13 +15,12 @@ use Rattle.tree_model.specs.declared.rows.Update.TheVariants.{Make}
 use Rattle.tree_model.specs.Rows.{Rows, is_dir_at}
 use Rattle.tree_model.specs.Updates.{apply}
 use Rattle.tree_model.specs.Weights.{live, given_up, weight}
-use Rattle.tree_cuts.specs.Calls.{Charged, charge, charged_meets, unsealed_weight, unsealed_blocks, unsealed_rows, seals_own, Accepted, call_steps}
-use Rattle.ccfs_base.specs.Names.{is_name}
+use Rattle.tree_cuts.specs.Calls.{Sizes, Charged, charge, charged_meets, unsealed_weight, unsealed_blocks, unsealed_rows, seals_own, Accepted, call_steps}
 use Rattle.history_model.specs.State.{Choice, Now, stream_in}
-use Rattle.ccfs_top.specs.Made.{IsMade}
-use Rattle.ccfs_top.specs.Stages.{sizes, forces_a_seal}
+use Rattle.pending_rows.specs.Made.{IsMade}
+use Rattle.ccfs_top.specs.Stages.{forces_a_seal}
 use Rattle.ccfs_top.specs.Sessions.{IsOfMake}
-use Rattle.ccfs_top.proofs.Making.{make_len, make_keeps}
+use Rattle.ccfs_top.proofs.Making.{make_len}
 use Rattle.ccfs_top.proofs.MadeTrees.{live_none}
 
 abbrev pub OfMakes : List (ℕ × Charged) → Type 0
@@ -109,12 +108,13 @@ enters_alone u own l all is =
 
 -- ---- the row that is made next
 
-module _ (t : Rows) (d x : ℕ) (name : List ℕ) (b : Bool) (made : IsMade t) (fits : IsTrue (is_dir_at t d)) (next : x ≡ len t) (spelled : is_name name ≡ true) where
+-- a tree of made rows, and the tree with one more, whose serial is the number of rows
+module _ (t : Rows) (d x : ℕ) (name : List ℕ) (b : Bool) (made : IsMade t) (on : IsMade (apply t (Make d name x b))) (dir : IsTrue (is_dir_at t d)) (next : x ≡ len t) where
   none_before : live t ≡ 0
   none_before = live_none t made
 
   none_after : live (apply t (Make d name x b)) ≡ 0
-  none_after = live_none (apply t (Make d name x b)) (make_keeps t d x name b made next fits spelled)
+  none_after = live_none (apply t (Make d name x b)) on
 
   make_weighs : weight t (Make d name x b) ≡ 512
   make_weighs = let p = none_before in let q = none_after in omega (arith, p, q)
@@ -123,7 +123,7 @@ module _ (t : Rows) (d x : ℕ) (name : List ℕ) (b : Bool) (made : IsMade t) (
   make_gives_none = let p = none_before in omega (arith, p)
 
   grown : len (apply t (Make d name x b)) ≡ len t + 1
-  grown = make_len t d x name b fits (made.dense x (omega (arith, next)))
+  grown = make_len t d x name b dir (made.dense x (omega (arith, next)))
 
   -- what is unsealed then is of rows that were made, too
   pub of_make : IsOfMake (0, (Make d name x b, charge t (Make d name x b)))
@@ -135,40 +135,41 @@ module _ (t : Rows) (d x : ℕ) (name : List ℕ) (b : Bool) (made : IsMade t) (
   }
 
   -- it seals its stream exactly where 512 are unsealed there
-  own_is : (inodes : ℕ) (l : List (ℕ × Charged)) → OfMakes l → len t < inodes - 1 → seals_own (sizes inodes) t l 0 (Make d name x b) ≡ ltb transaction_limit (512 * length l + 512)
-  own_is inodes l all few =
+  own_is : (k : Sizes) (l : List (ℕ × Charged)) → OfMakes l → len t < k.inodes - 1 → seals_own k t l 0 (Make d name x b) ≡ ltb transaction_limit (512 * length l + 512)
+  own_is k l all few =
       let p = weight_all l all in let q = make_weighs in
       let r = none_after in let s = blocks_none l all in
       let g = grown in let o = rows_none l all in
       let blocks_left : live (apply t (Make d name x b)) + unsealed_blocks l ≡ 0 = omega (arith, r, s) in
-      let rows_left : len (apply t (Make d name x b)) + unsealed_rows l ≤ inodes - 1 = omega (arith, g, o, few) in
-      let no_row : ltb (inodes - 1) (len (apply t (Make d name x b)) + unsealed_rows l) ≡ false = under (inodes - 1) (len (apply t (Make d name x b)) + unsealed_rows l) rows_left in
+      let rows_left : len (apply t (Make d name x b)) + unsealed_rows l ≤ k.inodes - 1 = omega (arith, g, o, few) in
+      let no_row : ltb (k.inodes - 1) (len (apply t (Make d name x b)) + unsealed_rows l) ≡ false = under (k.inodes - 1) (len (apply t (Make d name x b)) + unsealed_rows l) rows_left in
       let w : unsealed_weight 0 l + weight t (Make d name x b) ≡ 512 * length l + 512 = omega (arith, p, q) in
-      ap (λ (k : ℕ). ltb transaction_limit k || ltb 4294967295 (live (apply t (Make d name x b)) + unsealed_blocks l) || ltb (inodes - 1) (len (apply t (Make d name x b)) + unsealed_rows l)) w
-      ∙ ap (λ (k : ℕ). ltb transaction_limit (512 * length l + 512) || ltb 4294967295 k || ltb (inodes - 1) (len (apply t (Make d name x b)) + unsealed_rows l)) blocks_left
-      ∙ ap (λ (k : Bool). ltb transaction_limit (512 * length l + 512) || false || k) no_row
+      let no_block : ltb k.data_blocks (live (apply t (Make d name x b)) + unsealed_blocks l) ≡ false = under k.data_blocks (live (apply t (Make d name x b)) + unsealed_blocks l) (omega (arith, blocks_left)) in
+      ap (λ (z : ℕ). ltb transaction_limit z || ltb k.data_blocks (live (apply t (Make d name x b)) + unsealed_blocks l) || ltb (k.inodes - 1) (len (apply t (Make d name x b)) + unsealed_rows l)) w
+      ∙ ap (λ (z : Bool). ltb transaction_limit (512 * length l + 512) || z || ltb (k.inodes - 1) (len (apply t (Make d name x b)) + unsealed_rows l)) no_block
+      ∙ ap (λ (z : Bool). ltb transaction_limit (512 * length l + 512) || false || z) no_row
       ∙ or_none (ltb transaction_limit (512 * length l + 512))
 
-  pub not_full : (inodes : ℕ) (l : List (ℕ × Charged)) → OfMakes l → len t < inodes - 1 → length l < 512 → seals_own (sizes inodes) t l 0 (Make d name x b) && is_open l 0 ≡ false
-  not_full inodes l all few light =
+  pub not_full : (k : Sizes) (l : List (ℕ × Charged)) → OfMakes l → len t < k.inodes - 1 → length l < 512 → seals_own k t l 0 (Make d name x b) && is_open l 0 ≡ false
+  not_full k l all few light =
       let no : ltb transaction_limit (512 * length l + 512) ≡ false = under 262144 (512 * length l + 512) (omega arith) in
-      ap (λ (k : Bool). k && is_open l 0) (own_is inodes l all few ∙ no)
+      ap (λ (z : Bool). z && is_open l 0) (own_is k l all few ∙ no)
 
 -- an update seals its stream where 512 are unsealed there
-pub full : (inodes : ℕ) (t : Rows) (u : Update) (l : List (ℕ × Charged)) → OfMakes l → 512 ≤ length l → seals_own (sizes inodes) t l 0 u && is_open l 0 ≡ true
-full inodes t u l all many =
+pub full : (k : Sizes) (t : Rows) (u : Update) (l : List (ℕ × Charged)) → OfMakes l → 512 ≤ length l → seals_own k t l 0 u && is_open l 0 ≡ true
+full k t u l all many =
     let p = weight_all l all in
     let w : 262144 < unsealed_weight 0 l + weight t u = omega (arith, p, many) in
     let yes : ltb transaction_limit (unsealed_weight 0 l + weight t u) ≡ true = over 262144 (unsealed_weight 0 l + weight t u) w in
-    ap (λ (k : Bool). (k || ltb 4294967295 (live (apply t u) + unsealed_blocks l) || ltb (inodes - 1) (len (apply t u) + unsealed_rows l)) && is_open l 0) yes ∙ open_some l all (omega arith)
+    ap (λ (z : Bool). (z || ltb k.data_blocks (live (apply t u) + unsealed_blocks l) || ltb (k.inodes - 1) (len (apply t u) + unsealed_rows l)) && is_open l 0) yes ∙ open_some l all (omega arith)
 
 -- ---- the steps of an update of an actor that has left no stream
 
 pub in_zero : (n : Now) (a : ℕ) → n.choices ≡ [] → stream_in n.choices a ≡ 0
 in_zero n a is = ap (λ (z : List Choice). stream_in z a) is
 
-pub accepted_alone : (inodes : ℕ) (n : Now) (s : ℕ) (u : Update) → s ≡ 0 → OfMakes n.unsealed → forces_a_seal inodes n s (Some u) ≡ false
-    → call_steps (sizes inodes) n.tree n.unsealed (Accepted s u) ≡ Enter 0 (u, charge n.tree u) ∷ []
-accepted_alone inodes n s u zero all free =
-    ap (λ (z : ℕ). call_steps (sizes inodes) n.tree n.unsealed (Accepted z u)) zero
-    ∙ enters_alone (u, charge n.tree u) (seals_own (sizes inodes) n.tree n.unsealed 0 u) n.unsealed all (ap (λ (z : ℕ). forces_a_seal inodes n z (Some u)) (sym zero) ∙ free)
+pub accepted_alone : (k : Sizes) (n : Now) (s : ℕ) (u : Update) → s ≡ 0 → OfMakes n.unsealed → forces_a_seal k n s (Some u) ≡ false
+    → call_steps k n.tree n.unsealed (Accepted s u) ≡ Enter 0 (u, charge n.tree u) ∷ []
+accepted_alone k n s u zero all free =
+    ap (λ (z : ℕ). call_steps k n.tree n.unsealed (Accepted z u)) zero
+    ∙ enters_alone (u, charge n.tree u) (seals_own k n.tree n.unsealed 0 u) n.unsealed all (ap (λ (z : ℕ). forces_a_seal k n z (Some u)) (sym zero) ∙ free)

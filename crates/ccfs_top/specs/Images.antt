@@ -1,31 +1,31 @@
 -- What a run finds on a disk.
-use Rattle.std.specs.Prelude.{◌≡◌, ℕ, Some, List, length}
+use Rattle.std.specs.Prelude.{◌≡◌, ℕ, ◌-◌, Some, List, length}
 use Rattle.tree_model.specs.Rows.{Rows}
 use Rattle.gate_journal.specs.Journal.{Journal, journal}
 use Rattle.atomic_volume.specs.Opening.{Contents, opened}
-use Rattle.recovery.specs.declared.fault.BadKind.{BadKind}
-use Rattle.recovery.specs.Pictures.{recovered}
+use Rattle.image_check.specs.declared.kinds.BadKind.{BadKind}
+use Rattle.recovery.specs.Recovering.{recovered_for_now}
+use Rattle.block_layout.specs.Sizes.{data_start}
+use Rattle.tree_cuts.specs.Calls.{Sizes}
 use Rattle.recovery.specs.Bad.{IsBad}
 use Rattle.ccfs_top.specs.Stages.{Room, room_in}
 
--- An image as a run counts with it: the number and the tree that it recovers to, its inodes, the bytes of its volume, and
--- the room in its half 0.
+-- An image as a run counts with it: the number and the tree that it recovers to, its data blocks and inodes, and the room in
+-- its half 0.
 pub record Image : Type 0 where
   pub number : ℕ
   pub tree : Rows
-  pub inodes : ℕ
-  pub size : ℕ
+  pub sizes : Sizes
   pub room : Room
 
 -- these bytes are that image
 pub record IsImage (image : Image) (c : List ℕ) : Type 0 where
-  pub recovers : recovered c ≡ Some (image.number, image.tree)
+  pub recovers : recovered_for_now c ≡ Some (image.number, image.tree)
   pub contents : Contents
   pub opens : opened c ≡ Some contents
-  pub inodes_are : image.inodes ≡ contents.inodes
-  pub size_is : image.size ≡ length contents.bytes
+  pub sizes_are : image.sizes ≡ record { data_blocks = contents.blocks - data_start contents.inodes; inodes = contents.inodes }
   pub half : Journal
-  pub journal_is : journal 0 image.size c ≡ Some half
+  pub journal_is : journal 0 (length contents.bytes) c ≡ Some half
   pub room_is : image.room ≡ room_in half
 
 -- What is found: something to go on with, or an image that is bad so in that block. Or nothing was read, since the disk
@@ -43,4 +43,4 @@ Finds P c Unread = Unit {0}
 
 -- an image that recovers to a number and a tree
 abbrev pub RecoversTo : ℕ × Rows → List ℕ → Type 0
-RecoversTo p c = recovered c ≡ Some p
+RecoversTo p c = recovered_for_now c ≡ Some p

@@ -11,8 +11,7 @@ use Rattle.tree_model.specs.Picture.{picture}
 use Rattle.history_model.specs.Histories.{start, seal_count, tree_at, durable}
 use Rattle.script_text.specs.declared.scripts.Call.{Call}
 use Rattle.gate_journal.specs.Runs.{LeavesBy, Quiet}
-use Rattle.recovery.specs.Pictures.{shown}
-use Rattle.ccfs_top.specs.Stages.{sizes}
+use Rattle.recovery.specs.Recovering.{shown_for_now}
 use Rattle.ccfs_top.specs.declared.stop.Stop.{Stop}
 use Rattle.ccfs_top.specs.Found.{IsFound}
 use Rattle.ccfs_top.specs.Images.{Image, IsImage, Finding, Holds, Spoilt, Unread, Finds, RecoversTo}
@@ -27,12 +26,12 @@ use Rattle.ccfs_top.specs.Reached.{history_to}
 pub record Within (image : Image) (h : List Entry) (least : ℕ) (c : List ℕ) : Type 0 where
   pub cut : ℕ
   pub enough : least ≤ cut
-  pub few : cut ≤ seal_count (sizes image.inodes) (start image.tree) h
-  pub shows : shown c ≡ Some (further image.number cut, picture (tree_at (sizes image.inodes) (start image.tree) h cut))
+  pub few : cut ≤ seal_count image.sizes (start image.tree) h
+  pub shows : shown_for_now c ≡ Some (further image.number cut, picture (tree_at image.sizes (start image.tree) h cut))
 
 -- the history of the first of these calls over an image
 abbrev pub first_history : Image → List Call → ℕ → List Entry
-first_history image calls i = history_to image.inodes (start image.tree) calls i
+first_history image calls i = history_to image.sizes (start image.tree) calls i
 
 -- What a session that opened leaves, where so many whole reply lines were written. At every moment a crash leaves what it
 -- might have left at the start, or an image within the history of the calls up to the one behind those lines. In the end it

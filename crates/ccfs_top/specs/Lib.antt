@@ -1,5 +1,4 @@
 pub mod Found
-pub mod Made
 pub mod Stages
 pub mod Images
 pub mod Asked

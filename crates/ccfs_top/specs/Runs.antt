@@ -19,7 +19,8 @@ use Rattle.block_layout.specs.Sizes.{data_start}
 use Rattle.gate_journal.specs.declared.halves.Half.{Half}
 use Rattle.gate_journal.specs.Halves.{journal_of}
 use Rattle.block_layout.specs.declared.geometry.Geometry.{Geometry}
-use Rattle.recovery.specs.Bad.{kind_name}
+use Rattle.image_check.specs.Kinds.{kind_name}
+use Rattle.tree_cuts.specs.Calls.{Sizes}
 use Rattle.ccfs_top.specs.Stages.{Room, sizes, is_blocked, room_in, room_after}
 use Rattle.ccfs_top.specs.Images.{Image, Finding, Holds, Spoilt, Unread}
 
@@ -27,26 +28,26 @@ use Rattle.ccfs_top.specs.Images.{Image, Finding, Holds, Spoilt, Unread}
 abbrev pub further : ℕ → ℕ → ℕ
 further k n = (k + n) % 2 ^ 64
 
--- the calls before the first that isn't built, over an image with so many inodes, a volume of so many bytes and this room
-abbrev pub made : ℕ → ℕ → Room → Now → List Call → List Call
-made inodes size room n [] = []
-made inodes size room n (c ∷ cs) =
-    cond (is_blocked inodes size room n c.actor c.command) []
-    (c ∷ made inodes size (room_after room n c.actor c.command) (entered_by (sizes inodes) n (entry_of (sizes inodes) n c.actor c.command)) cs)
+-- the calls before the first that isn't built, over an image of these sizes with this room
+abbrev pub made : Sizes → Room → Now → List Call → List Call
+made k room n [] = []
+made k room n (c ∷ cs) =
+    cond (is_blocked k room n c.actor c.command) []
+    (c ∷ made k (room_after room n c.actor c.command) (entered_by k n (entry_of k n c.actor c.command)) cs)
 
 -- the line of the first that isn't built
-abbrev pub stopped : ℕ → ℕ → Room → Now → List Call → Option ℕ
-stopped inodes size room n [] = None
-stopped inodes size room n (c ∷ cs) =
-    cond (is_blocked inodes size room n c.actor c.command) (Some c.line)
-    (stopped inodes size (room_after room n c.actor c.command) (entered_by (sizes inodes) n (entry_of (sizes inodes) n c.actor c.command)) cs)
+abbrev pub stopped : Sizes → Room → Now → List Call → Option ℕ
+stopped k room n [] = None
+stopped k room n (c ∷ cs) =
+    cond (is_blocked k room n c.actor c.command) (Some c.line)
+    (stopped k (room_after room n c.actor c.command) (entered_by k n (entry_of k n c.actor c.command)) cs)
 
 -- the history of these calls
 abbrev pub asked : List Call → List (ℕ × Command)
 asked cs = map (λ c. (c.actor, c.command)) cs
 
-abbrev pub history : ℕ → Now → List Call → List Entry
-history inodes n cs = hist (sizes inodes) n (asked cs)
+abbrev pub history : Sizes → Now → List Call → List Entry
+history k n cs = hist k n (asked cs)
 
 abbrev pub line_of : Entry → List ℕ
 line_of e = reply_line e.actor e.reply
@@ -56,22 +57,22 @@ abbrev pub reply_lines : List Entry → List (List ℕ)
 reply_lines h = map line_of h
 
 -- an image, by what a session keeps of it
-abbrev pub image_by : ℕ → Rows → Geometry → Half → List ℕ → Image
-image_by number tree geometry half bytes = record { number = number; tree = tree; inodes = geometry.inodes; size = length bytes; room = room_in (journal_of half) }
+abbrev pub image_by : ℕ → Rows → Geometry → Half → Image
+image_by number tree geometry half = record { number = number; tree = tree; sizes = sizes geometry; room = room_in (journal_of half) }
 
 -- the calls that are made over an image, their history, and its reply lines
 abbrev pub made_over : Image → List Call → List Call
-made_over image calls = made image.inodes image.size image.room (start image.tree) calls
+made_over image calls = made image.sizes image.room (start image.tree) calls
 
 abbrev pub final_history : Image → List Call → List Entry
-final_history image calls = history image.inodes (start image.tree) (made_over image calls)
+final_history image calls = history image.sizes (start image.tree) (made_over image calls)
 
 abbrev pub replies : Image → List Call → List (List ℕ)
 replies image calls = reply_lines (final_history image calls)
 
 -- the line of the first call that isn't built
 abbrev pub stopped_over : Image → List Call → Option ℕ
-stopped_over image calls = stopped image.inodes image.size image.room (start image.tree) calls
+stopped_over image calls = stopped image.sizes image.room (start image.tree) calls
 
 -- What is to come: a status, the reply lines, what stands behind them, and the number that is answered.
 pub record Expected : Type 0 where
@@ -89,7 +90,7 @@ abbrev pub finished : Image → List Entry → Expected
 finished image h = record {
   status = 0;
   replies = reply_lines h;
-  last = tree_lines (further image.number (durable h)) (picture (tree_at (sizes image.inodes) (start image.tree) h (durable h)));
+  last = tree_lines (further image.number (durable h)) (picture (tree_at image.sizes (start image.tree) h (durable h)));
   batches = further image.number (durable h);
 }
 

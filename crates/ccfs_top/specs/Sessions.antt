@@ -6,20 +6,18 @@ use Rattle.std.specs.FinMap.{len}
 use Rattle.ccfs_base.specs.declared.commands.Command.{Command}
 use Rattle.ccfs_base.specs.declared.commands.Command.TheVariants.{Mkdir, Create}
 use Rattle.ccfs_base.specs.declared.replies.Reply.{Reply}
-use Rattle.tree_model.specs.declared.rows.Update.{Update}
-use Rattle.tree_model.specs.declared.rows.Update.TheVariants.{Make, Write, Resize, Remove, Move, Release}
 use Rattle.tree_model.specs.declared.picturing.Item.{Item}
 use Rattle.tree_model.specs.Rows.{Rows}
-use Rattle.tree_cuts.specs.Calls.{Charged}
+use Rattle.tree_cuts.specs.Calls.{Sizes, Charged}
 use Rattle.history_model.specs.State.{Now}
 use Rattle.history_model.specs.Histories.{entered_by, entry_of}
 use Rattle.block_layout.specs.declared.geometry.Geometry.{Geometry}
 use Rattle.gate_journal.specs.declared.halves.Half.{Half}
 use Rattle.atomic_volume.specs.Held.{contents_by}
-use Rattle.recovery.specs.Pictures.{picture_shown, shown}
-use Rattle.ccfs_top.specs.Made.{IsMade}
+use Rattle.recovery.specs.Recovering.{picture_shown, shown_for_now}
+use Rattle.pending_rows.specs.Made.{IsMade}
 use Rattle.ccfs_top.specs.Runs.{further}
-use Rattle.ccfs_top.specs.Stages.{Room, sizes, is_blocked, room_after}
+use Rattle.ccfs_top.specs.Stages.{Room, is_blocked, room_after}
 
 -- an unsealed update of stream 0 that made a row: it weighs 512, and gives up nothing
 pub record IsOfMake (e : ℕ × Charged) : Type 0 where
@@ -40,35 +38,17 @@ pub record Stands (n : Now) (t : Rows) (sealed waiting : ℕ) : Type 0 where
   pub next : n.next ≡ len n.tree
   pub made : IsMade n.tree
 
--- the serial of the row that an update makes; 0, the root's, of one that makes none
-abbrev pub serial_of : Update → ℕ
-serial_of (Make dir name id is_dir) = id
-serial_of (Write id off bytes) = 0
-serial_of (Resize id len) = 0
-serial_of (Remove dir name id stays) = 0
-serial_of (Move dir name to_dir to_name id is_dir replaced stays) = 0
-serial_of (Release id) = 0
-
--- its name; the empty one, which is no name, of one that makes none
-abbrev pub name_of : Update → List ℕ
-name_of (Make dir name id is_dir) = name
-name_of (Write id off bytes) = []
-name_of (Resize id len) = []
-name_of (Remove dir name id stays) = []
-name_of (Move dir name to_dir to_name id is_dir replaced stays) = []
-name_of (Release id) = []
-
 -- mkdir (true) or create (false)
 abbrev pub make_command : Bool → List (List ℕ) → Command
 make_command true path = Mkdir path
 make_command false path = Create path
 
--- a call that was answered so where the history left n, over an image with so many inodes, a volume of so many bytes and
--- this room: it wasn't blocked, the reply is that of its entry, and the session stands as the entry leaves it
-pub record Answered (inodes size : ℕ) (room : Room) (n : Now) (actor : ℕ) (command : Command) (answered : Reply) (t : Rows) (sealed waiting : ℕ) (room' : Room) : Type 0 where
-  pub unblocked : is_blocked inodes size room n actor command ≡ false
-  pub reply : answered ≡ (entry_of (sizes inodes) n actor command).reply
-  pub stands : Stands (entered_by (sizes inodes) n (entry_of (sizes inodes) n actor command)) t sealed waiting
+-- a call that was answered so where the history left n, over an image of these sizes with this room: it wasn't blocked, the
+-- reply is that of its entry, and the session stands as the entry leaves it
+pub record Answered (k : Sizes) (room : Room) (n : Now) (actor : ℕ) (command : Command) (answered : Reply) (t : Rows) (sealed waiting : ℕ) (room' : Room) : Type 0 where
+  pub unblocked : is_blocked k room n actor command ≡ false
+  pub reply : answered ≡ (entry_of k n actor command).reply
+  pub stands : Stands (entered_by k n (entry_of k n actor command)) t sealed waiting
   pub room_on : room' ≡ room_after room n actor command
 
 -- a volume, by what is known of it, shows this number and this picture
@@ -88,4 +68,4 @@ pub record IsSealed (before now sealed sealed' waiting : ℕ) : Type 0 where
 
 -- an image on the way shows the first of these; or the second, where it may
 abbrev pub EitherShown : Bool → ℕ × List Item → ℕ × List Item → List ℕ → Type 0
-EitherShown may first second c = (shown c ≡ Some first) ⊎ ((may ≡ true) × (shown c ≡ Some second))
+EitherShown may first second c = (shown_for_now c ≡ Some first) ⊎ ((may ≡ true) × (shown_for_now c ≡ Some second))

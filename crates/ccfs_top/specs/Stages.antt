@@ -6,22 +6,17 @@ use Rattle.stream_cuts.specs.Forced.{is_open}
 use Rattle.ccfs_base.specs.declared.commands.Command.{Command}
 use Rattle.ccfs_base.specs.declared.commands.Command.TheVariants.{Mkdir, Create, StreamSync}
 use Rattle.tree_model.specs.declared.rows.Update.{Update}
-use Rattle.tree_model.specs.Rows.{Rows}
-use Rattle.tree_model.specs.Picture.{picture}
 use Rattle.tree_cuts.specs.Calls.{Sizes, seals_own}
 use Rattle.history_model.specs.State.{Now, stream_in}
 use Rattle.history_model.specs.Answers.{answer}
-use Rattle.plain_image.specs.Plain.{plain_bytes}
 use Rattle.gate_journal.specs.Places.{records_size}
-use Rattle.gate_journal.specs.Batches.{batch_bytes}
 use Rattle.gate_journal.specs.Journal.{Journal}
-use Rattle.recovery.specs.Shown.{picture_batch}
+use Rattle.block_layout.specs.declared.geometry.Geometry.{Geometry}
+use Rattle.pending_rows.specs.Waiting.{batch_size}
 
--- The numbers that answers count with, where an image has so many inodes: with 100 of them there may be 99 rows. The
--- inodes are those of the image. A plain picture has no data blocks to run out of, since its files are empty: so this
--- number of them seals and refuses nothing.
-abbrev pub sizes : ℕ → Sizes
-sizes inodes = record { data_blocks = 4294967295; inodes = inodes }
+-- The numbers that answers count with: an image of 512 blocks and 32 inodes has 246 data blocks, and there may be 31 rows.
+abbrev pub sizes : Geometry → Sizes
+sizes geometry = record { data_blocks = geometry.data_blocks; inodes = geometry.inodes }
 
 -- ---- room for commits
 
@@ -40,42 +35,34 @@ room_in j = record { gates = j.count; bytes = j.used; barred = j.behind }
 abbrev pub has_room : Room → ℕ → Bool
 has_room room bytes = nat_lt room.gates 4096 && (not room.barred && nat_le (room.bytes + bytes) records_size)
 
--- the bytes of the picture of a tree, and of its batch: 12 and 40 of the root alone. The number doesn't change them
-abbrev pub picture_length : Rows → ℕ
-picture_length t = length (plain_bytes 0 (picture t))
+-- whether the batch of so many made rows has room
+abbrev pub may_commit : Room → ℕ → Bool
+may_commit room rows = has_room room (batch_size rows)
 
-abbrev pub batch_length : Rows → ℕ
-batch_length t = length (batch_bytes (picture_batch 0 (picture t)))
-
--- whether the picture of a tree may be committed to a volume of so many bytes: it stands in the volume, and its batch has
--- room
-abbrev pub may_commit : ℕ → Room → Rows → Bool
-may_commit size room t = nat_le (picture_length t) size && has_room room (batch_length t)
-
--- the room once the picture of a tree is committed
-abbrev pub with_picture : Room → Rows → Room
-with_picture room t = record { gates = room.gates + 1; bytes = room.bytes + batch_length t; barred = room.barred }
+-- the room once that batch is committed
+abbrev pub with_rows : Room → ℕ → Room
+with_rows room rows = record { gates = room.gates + 1; bytes = room.bytes + batch_size rows; barred = room.barred }
 
 -- whether a call commits: a sync where something is unsealed
 abbrev pub commits : Now → ℕ → Command → Bool
 commits n actor StreamSync = is_open n.unsealed (stream_in n.choices actor)
 commits n actor c = false
 
--- the room after a call
+-- the room after a call: all that is unsealed is in stream 0
 abbrev pub room_after : Room → Now → ℕ → Command → Room
-room_after room n actor c = cond (commits n actor c) (with_picture room n.tree) room
+room_after room n actor c = cond (commits n actor c) (with_rows room (length n.unsealed)) room
 
 -- ---- what isn't built
 
 -- whether an accepted update would seal its own stream first: the 513th row that is made since the last sync
-abbrev pub forces_a_seal : ℕ → Now → ℕ → Option Update → Bool
-forces_a_seal inodes n s None = false
-forces_a_seal inodes n s (Some u) = seals_own (sizes inodes) n.tree n.unsealed s u && is_open n.unsealed s
+abbrev pub forces_a_seal : Sizes → Now → ℕ → Option Update → Bool
+forces_a_seal k n s None = false
+forces_a_seal k n s (Some u) = seals_own k n.tree n.unsealed s u && is_open n.unsealed s
 
--- whether a call isn't built, over an image with so many inodes, a volume of so many bytes and this room: an update that
--- would seal first, a sync whose picture may not be committed, and every other command
-abbrev pub is_blocked : ℕ → ℕ → Room → Now → ℕ → Command → Bool
-is_blocked inodes size room n actor (Mkdir path) = forces_a_seal inodes n (stream_in n.choices actor) (answer (sizes inodes) n actor (Mkdir path)).1
-is_blocked inodes size room n actor (Create path) = forces_a_seal inodes n (stream_in n.choices actor) (answer (sizes inodes) n actor (Create path)).1
-is_blocked inodes size room n actor StreamSync = is_open n.unsealed (stream_in n.choices actor) && not (may_commit size room n.tree)
-is_blocked inodes size room n actor c = true
+-- whether a call isn't built, over an image of these sizes with this room: an update that would seal first, a sync whose batch has
+-- no room, and every other command
+abbrev pub is_blocked : Sizes → Room → Now → ℕ → Command → Bool
+is_blocked k room n actor (Mkdir path) = forces_a_seal k n (stream_in n.choices actor) (answer k n actor (Mkdir path)).1
+is_blocked k room n actor (Create path) = forces_a_seal k n (stream_in n.choices actor) (answer k n actor (Create path)).1
+is_blocked k room n actor StreamSync = is_open n.unsealed (stream_in n.choices actor) && not (may_commit room (length n.unsealed))
+is_blocked k room n actor c = true

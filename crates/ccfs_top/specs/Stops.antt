@@ -3,7 +3,7 @@ use Rattle.std.specs.Prelude.{◌≡◌, ◌⊎◌, ℕ, List, [], ◌++◌, len
 use Rattle.script_text.specs.Texts.{usage_line, too_long_line, bad_image_line, bad_line_line, not_built_line, script_fault_line, disk_fault_line, memory_fault_line}
 use Rattle.ccfs_top.specs.declared.stop.Stop.{Stop}
 use Rattle.ccfs_top.specs.declared.stop.Stop.TheVariants.{Usage, Long, BadLine, NotBuilt, Source, Sink, Disk, BadImage, NoMemory}
-use Rattle.recovery.specs.Bad.{kind_name}
+use Rattle.image_check.specs.Kinds.{kind_name}
 use Rattle.recovery.specs.declared.fault.OpenFault.{OpenFault}
 use Rattle.recovery.specs.declared.fault.OpenFault.TheVariants as open_fault
 use Rattle.ccfs_top.specs.Runs.{Expected, alone}

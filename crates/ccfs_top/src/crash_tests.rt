@@ -108,10 +108,10 @@ fn one_create_and_sync_write_a_batch_and_its_gate(rt: HostRuntime) -> Result<(),
         b"0 create /f\n0 streamsync\n",
         &mut out,
     )?;
-    // A header of 16 bytes, a record header of 12, a picture of 41, and a gate.
+    // A header of 16 bytes, the records of the row with 170, that of the batch number with 20, and a gate.
     assert_eq!(rt;
         (idle.disk.written(), one.disk.written()),
-        (0, 16 + 12 + 41 + 1)
+        (0, 16 + 170 + 20 + 1)
     );
     // Two writes and two syncs; and the batch is read back for the tree.
     assert_eq!(rt;

@@ -8,13 +8,15 @@ ghost use Rattle.gate_journal.specs.Halves.{journal_of};
 ghost use Rattle.gate_journal.specs.Runs.{Quiet};
 ghost use Rattle.atomic_volume.specs.Opening.{is_unbuilt};
 ghost use Rattle.recovery.specs.Bad.{Says};
-ghost use Rattle.recovery.specs.Pictures.{is_last, shown};
+ghost use Rattle.image_model.specs.Volumes.{volume_of};
+ghost use Rattle.image_model.specs.Checks.{is_last};
+ghost use Rattle.recovery.specs.Recovering.{shown_for_now};
 ghost use Rattle.recovery.specs.declared.fault.OpenFault.TheVariants as open_fault;
 ghost use Rattle.ccfs_top.specs.Ends.{IsPart, joined};
 ghost use Rattle.ccfs_top.specs.Found.{IsFound};
 ghost use Rattle.ccfs_top.specs.Images.{Image, IsImage, Finding, Finds, Holds};
 ghost use Rattle.ccfs_top.specs.Left.{Kept, Halts, Done};
-ghost use Rattle.ccfs_top.specs.Made.{IsMade};
+ghost use Rattle.pending_rows.specs.Waiting.{Waits};
 ghost use Rattle.ccfs_top.specs.Runs.{image_by, ran, over};
 ghost use Rattle.ccfs_top.specs.Sessions.{Shows};
 ghost use Rattle.ccfs_top.specs.Stops.{IsFaultStop};
@@ -25,7 +27,7 @@ use crate::session::Session;
 use crate::stop::{Stop, stop_of_open};
 use ccfs_base::{Returned, Sink, write_all};
 use disk_model::Disk;
-use recovery::view_picture;
+use recovery::view;
 use script_text::{Call, tree_text};
 use std::alloc::Global;
 use tree_model::Item;
@@ -61,27 +63,30 @@ pub fn write_tree<K: Sink>(
     }
 }
 
-/// Reads the picture that the disk shows and writes its text. Answers the number that was written.
+/// Reads the tree that the disk holds and writes its text. Answers the number that was written.
 fn write_shown<D: Disk, K: Sink>(alloc: Global, disk: &mut D, out: &mut K) -> Result<u64, Stop>
-    ensures number { D.tells → D.in_doubt disk.old ≡ false → (number : ℕ) (p : List Item) → shown (D.seen disk.old) ≡ Some (number, p) → IfOk result (λ n. n ≡ number) }
-    ensures text { D.tells → K.tells → D.in_doubt disk.old ≡ false → (number : ℕ) (p : List Item) → shown (D.seen disk.old) ≡ Some (number, p) → OnOk result (K.held out.new ≡ K.held out.old ++ tree_lines number p) }
-    ensures sink { D.tells → K.tells → D.in_doubt disk.old ≡ false → (number : ℕ) (p : List Item) → shown (D.seen disk.old) ≡ Some (number, p) → IsErrOf result Stop.Sink
+    ensures number { D.tells → D.in_doubt disk.old ≡ false → (number : ℕ) (p : List Item) → shown_for_now (D.seen disk.old) ≡ Some (number, p) → IfOk result (λ n. n ≡ number) }
+    ensures text { D.tells → K.tells → D.in_doubt disk.old ≡ false → (number : ℕ) (p : List Item) → shown_for_now (D.seen disk.old) ≡ Some (number, p) → OnOk result (K.held out.new ≡ K.held out.old ++ tree_lines number p) }
+    ensures sink { D.tells → K.tells → D.in_doubt disk.old ≡ false → (number : ℕ) (p : List Item) → shown_for_now (D.seen disk.old) ≡ Some (number, p) → IsErrOf result Stop.Sink
         → (said : List ℕ) × (K.held out.new ≡ K.held out.old ++ said) × IsPart said (tree_lines number p) }
     ensures sink_cause { IsErrOf result Stop.Sink → Rose (K.faults out.old) (K.faults out.new) }
     ensures unwritten { K.tells → (IsErrOf result Stop.Sink → ⊥) → OnErr result (K.held out.new ≡ K.held out.old) }
-    ensures fault { D.tells → D.in_doubt disk.old ≡ false → is_unbuilt (D.seen disk.old) ≡ false → (number : ℕ) (p : List Item) → shown (D.seen disk.old) ≡ Some (number, p) → IfErr result (λ stop. IsFaultStop stop) }
+    ensures fault { D.tells → D.in_doubt disk.old ≡ false → is_unbuilt (D.seen disk.old) ≡ false → (number : ℕ) (p : List Item) → shown_for_now (D.seen disk.old) ≡ Some (number, p) → IfErr result (λ stop. IsFaultStop stop) }
     ensures quiet { D.tells → Quiet D.Disk disk.old disk.new }
     ensures later { D.faults disk.old ≤ D.faults disk.new }
     ensures sink_later { K.faults out.old ≤ K.faults out.new }
     ensures device { IsErrOf result Stop.Disk → Rose (D.faults disk.old) (D.faults disk.new) }
     ensures kinds { (IsErrOf result Stop.Usage → ⊥) × (IsErrOf result Stop.Long → ⊥) × (IsErrOf result Stop.Source → ⊥) }
 {
-    let seen = match view_picture(alloc, disk) {
-        Ok(seen) => seen,
+    let viewed = match view(alloc, disk) {
+        Ok(viewed) => viewed,
         Err(fault) => return Err(stop_of_open(fault)),
     };
-    match write_tree(alloc, seen.number, seen.picture.all(), out) {
-        Ok(()) => Ok(seen.number),
+    let Ok(picture) = viewed.tree.picture(alloc) else {
+        return Err(Stop::NoMemory);
+    };
+    match write_tree(alloc, viewed.number, picture.all(), out) {
+        Ok(()) => Ok(viewed.number),
         Err(stop) => Err(stop),
     }
 }
@@ -93,14 +98,14 @@ fn run_session<D: Disk, K: Sink>(
     calls: &[Call],
     out: &mut K,
 ) -> Result<Finished<D>, Returned<Stop, D>>
-    requires made { IsMade session.tree }
+    requires waits { Waits (volume_of session.volume.geometry session.volume.volume.items) session.pending session.tree session.unsealed }
     requires no_seals { session.seals ≡ 0 }
     requires none_unsealed { session.unsealed ≡ 0 }
     requires working { session.volume.failed ≡ false }
     requires last { is_last (journal_of session.volume.half).last session.number ≡ true }
     requires shown { Shows session.volume.geometry session.volume.half session.volume.volume.items session.number (picture session.tree) }
-    ensures done { D.tells → IfOk result (λ done. Done D.Disk session.volume.disk done.disk calls.now (image_by session.number session.tree session.volume.geometry session.volume.half session.volume.volume.items) done.batches K.tells (K.held out.old) (K.held out.new)) }
-    ensures halts { D.tells → IfErr result (λ refused. Halts D.Disk session.volume.disk refused.kept calls.now (Holds (image_by session.number session.tree session.volume.geometry session.volume.half session.volume.volume.items)) (ran (image_by session.number session.tree session.volume.geometry session.volume.half session.volume.volume.items) calls.now) refused.fault K.tells (K.held out.old) (K.held out.new)) }
+    ensures done { D.tells → IfOk result (λ done. Done D.Disk session.volume.disk done.disk calls.now (image_by session.number session.tree session.volume.geometry session.volume.half) done.batches K.tells (K.held out.old) (K.held out.new)) }
+    ensures halts { D.tells → IfErr result (λ refused. Halts D.Disk session.volume.disk refused.kept calls.now (Holds (image_by session.number session.tree session.volume.geometry session.volume.half)) (ran (image_by session.number session.tree session.volume.geometry session.volume.half) calls.now) refused.fault K.tells (K.held out.old) (K.held out.new)) }
     ensures sink_cause { IfErr result (λ refused. refused.fault ≡ Stop.Sink → Rose (K.faults out.old) (K.faults out.new)) }
     ensures kinds { IfErr result (λ refused. (refused.fault ≡ Stop.Usage → ⊥) × (refused.fault ≡ Stop.Long → ⊥) × (refused.fault ≡ Stop.Source → ⊥)) }
     ensures sink_later { K.faults out.old ≤ K.faults out.new }

@@ -1,31 +1,31 @@
-//! A file system in use: the tree, and the volume that holds the picture of what is durable.
-ghost use Rattle.std.specs.Prelude.{◌≡◌, ◌≢◌, ◌≤◌, ◌<◌, ◌+◌, ◌-◌, ◌^◌, ◌++◌, ℕ, List, true, false, IsTrue, length, IfOk, IfErr, OnOk, IsErrOf, IsErr, Ok, Err, None, Some};
+//! A file system in use: the tree, the volume that holds what is durable, and the rows that wait to be put on it.
+ghost use Rattle.std.specs.Prelude.{Bool, ◌≡◌, ◌≢◌, ◌≤◌, ◌<◌, ◌+◌, ◌-◌, ◌^◌, ◌++◌, ℕ, List, true, false, IsTrue, length, IfOk, IfErr, OnOk, IsErrOf, IsErr, Ok, Err, None, Some};
 ghost use Rattle.std.specs.FinMap.{len};
 ghost use Rattle.fault_counts.specs.Counts.{Rose};
 ghost use Rattle.tree_model.specs.Updates.{apply};
-ghost use Rattle.tree_model.specs.Tests.{applies};
+ghost use Rattle.tree_model.specs.Updates.{Fits};
+ghost use Rattle.tree_model.specs.declared.rows.Update.TheVariants.{Make};
 ghost use Rattle.tree_model.specs.declared.picturing.Item.{Item};
 ghost use Rattle.tree_model.specs.Picture.{picture};
 ghost use Rattle.history_model.specs.Answers.{make};
 ghost use Rattle.history_model.specs.State.{Now};
-ghost use Rattle.plain_image.specs.Plain.{plain_bytes, plain_of};
+ghost use Rattle.image_model.specs.Volumes.{Volume as ImageVolume, volume_of, is_used};
+ghost use Rattle.image_model.specs.Checks.{is_last};
 ghost use Rattle.gate_journal.specs.Halves.{journal_of};
 ghost use Rattle.gate_journal.specs.Runs.{LeavesBy};
-ghost use Rattle.recovery.specs.Pictures.{is_last};
-ghost use Rattle.recovery.specs.Shown.{picture_batch};
-ghost use Rattle.ccfs_top.specs.Made.{IsMade};
+ghost use Rattle.pending_rows.specs.Made.{IsMade};
+ghost use Rattle.pending_rows.specs.Waiting.{with_ranges, Waits};
 ghost use Rattle.ccfs_top.specs.Runs.{further};
-ghost use Rattle.ccfs_top.specs.Stages.{sizes, is_blocked, may_commit, with_picture, commits, room_in};
-ghost use Rattle.ccfs_top.specs.Sessions.{Stands, Answered, Shows, IsQuiet, IsSealed, EitherShown, make_command, serial_of, name_of};
+ghost use Rattle.ccfs_top.specs.Stages.{sizes, is_blocked, may_commit, with_rows, commits, room_in};
+ghost use Rattle.ccfs_top.specs.Sessions.{Stands, Answered, Shows, IsQuiet, IsSealed, EitherShown, make_command};
 ghost use Rattle.ccfs_base.specs.Names.{is_name};
 ghost use Rattle.ccfs_base.specs.declared.commands.Command.TheVariants as command;
 ghost use Rattle.ccfs_base.specs.declared.replies.Reply.TheVariants as reply;
 
 use atomic_volume::{Volume, VolumeFault};
-use ccfs_base::{Command, Path, Refusal, Reply};
+use ccfs_base::{Command, Name, Path, Refusal, Reply};
 use disk_model::Disk;
-use gate_journal::{Batch, Range, Ranges};
-use plain_image::write_picture;
+use pending_rows::PendingRows;
 use std::alloc::Global;
 use tree_model::{Tree, Update};
 
@@ -45,11 +45,13 @@ pub enum StepFault {
 
 /// A file system in use.
 pub struct Session<D: Disk> {
-    /// The volume that holds the picture of what is durable, on the disk. Its geometry tells the number of inodes; the tree
-    /// may have one row fewer, since one inode is set aside.
+    /// The volume that holds what is durable, on the disk.
     pub volume: Volume<D>,
+    /// The tree of all that was done. It may have one row fewer than there are inodes, since one inode is set aside.
     pub tree: Tree,
-    /// The number of the picture in the volume.
+    /// The rows that were made since the last seal, and the inodes of all.
+    pub pending: PendingRows,
+    /// The number of the last batch in the volume.
     pub number: u64,
     /// The number of seals since the session was opened.
     pub seals: u64,
@@ -57,15 +59,26 @@ pub struct Session<D: Disk> {
     pub unsealed: u32,
 }
 
-/// What mkdir or create asks for over an image with so many inodes: the update, or why it is refused.
-fn make_update(tree: &Tree, inodes: u32, path: &Path, is_dir: bool) -> Result<Update, Refusal>
+/// A row that is to be made: where, and under which inode.
+#[derive(Clone, Copy, Drop)]
+struct NewRow {
+    dir: u32,
+    name: Name,
+    inode: u32,
+}
+
+/// What mkdir or create asks for: the row, or why it is refused.
+fn new_row(tree: &Tree, pending: &PendingRows, path: &Path) -> Result<NewRow, Refusal>
     requires { IsMade tree.now }
-    ensures update { (n : Now) (seals unsealed : ℕ) → Stands n tree.now seals unsealed → IfOk result (λ u. make (sizes inodes) n 0 is_dir path.now ≡ (reply.Done, Some u)) }
-    ensures applies { IfOk result (λ u. IsTrue (applies tree.now u)) }
-    ensures serial { IfOk result (λ u. serial_of u ≡ len tree.now) }
-    ensures room { IfOk result (λ u. len tree.now < inodes - 1) }
-    ensures named { IfOk result (λ u. is_name (name_of u) ≡ true) }
-    ensures refused { (n : Now) (seals unsealed : ℕ) → Stands n tree.now seals unsealed → IfErr result (λ cause. make (sizes inodes) n 0 is_dir path.now ≡ (reply.Refused cause, None)) }
+    ensures update { (v : ImageVolume) (rows : ℕ) (n : Now) (seals : ℕ) (is_dir : Bool) → Waits v pending.now tree.now rows → Stands n tree.now seals rows
+        → IfOk result (λ row. make (sizes pending.now.geometry) n 0 is_dir path.now ≡ (reply.Done, Some (Make row.dir row.name (len tree.now) is_dir))) }
+    ensures fits { (v : ImageVolume) (rows : ℕ) (is_dir : Bool) → Waits v pending.now tree.now rows → IfOk result (λ row. Fits tree.now (Make row.dir row.name (len tree.now) is_dir)) }
+    ensures free { (v : ImageVolume) (rows : ℕ) → Waits v pending.now tree.now rows → IfOk result (λ row. (2 ≤ row.inode) × (is_used (with_ranges v pending.now.ranges) row.inode ≡ false)) }
+    ensures lies { IfOk result (λ row. row.inode < pending.now.geometry.inodes) }
+    ensures room { (v : ImageVolume) (rows : ℕ) → Waits v pending.now tree.now rows → IfOk result (λ row. len tree.now < pending.now.geometry.inodes - 1) }
+    ensures named { IfOk result (λ row. is_name row.name ≡ true) }
+    ensures refused { (v : ImageVolume) (rows : ℕ) (n : Now) (seals : ℕ) (is_dir : Bool) → Waits v pending.now tree.now rows → Stands n tree.now seals rows
+        → IfErr result (λ cause. make (sizes pending.now.geometry) n 0 is_dir path.now ≡ (reply.Refused cause, None)) }
 {
     if path.is_root() {
         return Err(Refusal::Exists);
@@ -77,58 +90,43 @@ fn make_update(tree: &Tree, inodes: u32, path: &Path, is_dir: bool) -> Result<Up
     if tree.entry(dir, &name).is_some() {
         return Err(Refusal::Exists);
     }
-    let rows = tree.len();
-    let max_rows = inodes.saturating_sub(1) as usize;
-    if rows >= max_rows {
-        return Err(Refusal::NoInode);
-    }
-    Ok(Update::Make {
-        dir,
-        name,
-        id: rows as u32,
-        is_dir,
-    })
-}
-
-/// The batch that commits the picture of a tree with a number.
-fn picture_batch(alloc: Global, tree: &Tree, number: u64) -> Result<Batch, StepFault>
-    requires { IsMade tree.now }
-    ensures batch { IfOk result (λ batch. batch ≡ picture_batch number (picture tree.now)) }
-    ensures read { OnOk result ((rest : List ℕ) → plain_of (plain_bytes number (picture tree.now) ++ rest) ≡ Some (number, picture tree.now)) }
-    ensures only_memory { IsErr result → result ≡ Err StepFault.NoMemory }
-{
-    let Ok(picture) = tree.picture(alloc) else {
-        return Err(StepFault::NoMemory);
-    };
-    let Ok(bytes) = write_picture(alloc, number, picture.all()) else {
-        return Err(StepFault::NoMemory);
-    };
-    let mut ranges = Ranges::new(alloc);
-    match ranges.push(Range { off: 0, bytes }) {
-        Ok(()) => Ok(Batch { number, ranges }),
-        Err(_) => Err(StepFault::NoMemory),
+    match pending.free_inode() {
+        Some(inode) => Ok(NewRow { dir, name, inode }),
+        None => Err(Refusal::NoInode),
     }
 }
 
 impl<D: Disk> Session<D> {
     /// Performs mkdir or create.
-    fn make(&mut self, path: &Path, is_dir: bool) -> Result<Reply, StepFault>
-        requires { IsMade self.old.tree }
-        ensures ok { (n : Now) (actor : ℕ) → Stands n self.old.tree self.old.seals self.old.unsealed → IfOk result (λ answer. Answered self.old.volume.geometry.inodes (length self.old.volume.volume.items) (room_in (journal_of self.old.volume.half)) n actor (make_command is_dir path.now) answer self.new.tree self.new.seals self.new.unsealed (room_in (journal_of self.new.volume.half))) }
-        ensures blocked { (n : Now) (actor : ℕ) → Stands n self.old.tree self.old.seals self.old.unsealed → IsErrOf result StepFault.NotBuilt → is_blocked self.old.volume.geometry.inodes (length self.old.volume.volume.items) (room_in (journal_of self.old.volume.half)) n actor (make_command is_dir path.now) ≡ true }
+    fn make(&mut self, alloc: Global, path: &Path, is_dir: bool) -> Result<Reply, StepFault>
+        requires waits { Waits (volume_of self.old.volume.geometry self.old.volume.volume.items) self.old.pending self.old.tree self.old.unsealed }
+        ensures waits { OnOk result (Waits (volume_of self.new.volume.geometry self.new.volume.volume.items) self.new.pending self.new.tree self.new.unsealed) }
+        ensures ok { (n : Now) (actor : ℕ) → Stands n self.old.tree self.old.seals self.old.unsealed → IfOk result (λ answer. Answered (sizes self.old.volume.geometry) (room_in (journal_of self.old.volume.half)) n actor (make_command is_dir path.now) answer self.new.tree self.new.seals self.new.unsealed (room_in (journal_of self.new.volume.half))) }
+        ensures blocked { (n : Now) (actor : ℕ) → Stands n self.old.tree self.old.seals self.old.unsealed → IsErrOf result StepFault.NotBuilt → is_blocked (sizes self.old.volume.geometry) (room_in (journal_of self.old.volume.half)) n actor (make_command is_dir path.now) ≡ true }
         ensures volume { self.new.volume ≡ self.old.volume }
         ensures number { self.new.number ≡ self.old.number }
         ensures seals { self.new.seals ≡ self.old.seals }
         ensures no_device { IsErrOf result StepFault.Device → ⊥ }
     {
-        let inodes = self.volume.geometry().inodes;
-        let update = match make_update(&self.tree, inodes, path, is_dir) {
-            Ok(update) => update,
+        let row = match new_row(&self.tree, &self.pending, path) {
+            Ok(row) => row,
             Err(cause) => return Ok(Reply::Refused(cause)),
         };
         if self.unsealed >= MAX_UNSEALED {
             return Err(StepFault::NotBuilt);
         }
+        let update = Update::Make {
+            dir: row.dir,
+            name: row.name,
+            id: self.tree.len() as u32,
+            is_dir,
+        };
+        let Ok(()) = self
+            .pending
+            .make(alloc, row.inode, row.dir, &row.name, is_dir)
+        else {
+            return Err(StepFault::NoMemory);
+        };
         match self.tree.apply(&update) {
             Ok(()) => {
                 self.unsealed += 1;
@@ -138,29 +136,31 @@ impl<D: Disk> Session<D> {
         }
     }
 
-    /// Commits the picture of the tree, under the number behind the last.
+    /// Commits what waits, under the number behind the last. Where that fails, nothing may be committed any more.
     fn commit(&mut self, alloc: Global) -> Result<(), StepFault>
-        requires made { IsMade self.old.tree }
+        requires waits { Waits (volume_of self.old.volume.geometry self.old.volume.volume.items) self.old.pending self.old.tree self.old.unsealed }
         requires working { self.old.volume.failed ≡ false }
         requires last { is_last (journal_of self.old.volume.half).last self.old.number ≡ true }
         ensures tree { self.new.tree ≡ self.old.tree }
         ensures seals { self.new.seals ≡ self.old.seals }
         ensures unsealed { self.new.unsealed ≡ self.old.unsealed }
+        ensures waits { OnOk result (Waits (volume_of self.new.volume.geometry self.new.volume.volume.items) self.new.pending self.new.tree 0) }
         ensures number { OnOk result (self.new.number ≡ further self.old.number 1) }
-        ensures accepted { OnOk result (may_commit (length self.old.volume.volume.items) (room_in (journal_of self.old.volume.half)) self.old.tree ≡ true) }
-        ensures blocked { IsErrOf result StepFault.NotBuilt → may_commit (length self.old.volume.volume.items) (room_in (journal_of self.old.volume.half)) self.old.tree ≡ false }
-        ensures room { OnOk result (room_in (journal_of self.new.volume.half) ≡ with_picture (room_in (journal_of self.old.volume.half)) self.old.tree) }
+        ensures accepted { OnOk result (may_commit (room_in (journal_of self.old.volume.half)) self.old.unsealed ≡ true) }
+        ensures blocked { IsErrOf result StepFault.NotBuilt → may_commit (room_in (journal_of self.old.volume.half)) self.old.unsealed ≡ false }
+        ensures room { OnOk result (room_in (journal_of self.new.volume.half) ≡ with_rows (room_in (journal_of self.old.volume.half)) self.old.unsealed) }
         ensures shows { OnOk result (Shows self.new.volume.geometry self.new.volume.half self.new.volume.volume.items self.new.number (picture self.old.tree)) }
         ensures last { OnOk result (is_last (journal_of self.new.volume.half).last self.new.number ≡ true) }
         ensures working { OnOk result (self.new.volume.failed ≡ false) }
         ensures geometry { self.new.volume.geometry ≡ self.old.volume.geometry }
-        ensures size { length self.new.volume.volume.items ≡ length self.old.volume.volume.items }
         ensures moments { D.tells → (items : List Item) → Shows self.old.volume.geometry self.old.volume.half self.old.volume.volume.items self.old.number items → LeavesBy D.Disk self.old.volume.disk self.new.volume.disk (EitherShown true (self.old.number, items) (further self.old.number 1, picture self.old.tree)) }
         ensures later { D.faults self.old.volume.disk ≤ D.faults self.new.volume.disk }
         ensures device { IsErrOf result StepFault.Device → Rose (D.faults self.old.volume.disk) (D.faults self.new.volume.disk) }
     {
         let number = self.number.wrapping_add(1);
-        let batch = picture_batch(alloc, &self.tree, number)?;
+        let Ok(batch) = self.pending.batch(alloc, number) else {
+            return Err(StepFault::NoMemory);
+        };
         if !self.volume.accepts(&batch) {
             return Err(StepFault::NotBuilt);
         }
@@ -169,26 +169,26 @@ impl<D: Disk> Session<D> {
                 self.number = number;
                 Ok(())
             }
-            Err(VolumeFault::NoMemory) => Err(StepFault::NoMemory),
-            Err(_) => Err(StepFault::Device),
+            Err(VolumeFault::Device) => Err(StepFault::Device),
+            Err(_) => Err(StepFault::NoMemory),
         }
     }
 
     /// Makes durable what is unsealed, if anything is.
     fn sync(&mut self, alloc: Global) -> Result<Reply, StepFault>
-        requires made { IsMade self.old.tree }
+        requires waits { Waits (volume_of self.old.volume.geometry self.old.volume.volume.items) self.old.pending self.old.tree self.old.unsealed }
         requires working { self.old.volume.failed ≡ false }
         requires last { is_last (journal_of self.old.volume.half).last self.old.number ≡ true }
         requires room { self.old.seals < 2 ^ 64 - 1 }
-        ensures ok { (n : Now) (actor : ℕ) → Stands n self.old.tree self.old.seals self.old.unsealed → IfOk result (λ answer. Answered self.old.volume.geometry.inodes (length self.old.volume.volume.items) (room_in (journal_of self.old.volume.half)) n actor command.StreamSync answer self.new.tree self.new.seals self.new.unsealed (room_in (journal_of self.new.volume.half))) }
-        ensures blocked { (n : Now) (actor : ℕ) → Stands n self.old.tree self.old.seals self.old.unsealed → IsErrOf result StepFault.NotBuilt → is_blocked self.old.volume.geometry.inodes (length self.old.volume.volume.items) (room_in (journal_of self.old.volume.half)) n actor command.StreamSync ≡ true }
+        ensures waits { OnOk result (Waits (volume_of self.new.volume.geometry self.new.volume.volume.items) self.new.pending self.new.tree self.new.unsealed) }
+        ensures ok { (n : Now) (actor : ℕ) → Stands n self.old.tree self.old.seals self.old.unsealed → IfOk result (λ answer. Answered (sizes self.old.volume.geometry) (room_in (journal_of self.old.volume.half)) n actor command.StreamSync answer self.new.tree self.new.seals self.new.unsealed (room_in (journal_of self.new.volume.half))) }
+        ensures blocked { (n : Now) (actor : ℕ) → Stands n self.old.tree self.old.seals self.old.unsealed → IsErrOf result StepFault.NotBuilt → is_blocked (sizes self.old.volume.geometry) (room_in (journal_of self.old.volume.half)) n actor command.StreamSync ≡ true }
         ensures quiet { OnOk result (self.new.seals ≡ self.old.seals → IsQuiet self.old.number self.new.number self.old.volume self.new.volume) }
         ensures sealed { OnOk result (self.new.seals ≢ self.old.seals → IsSealed self.old.number self.new.number self.old.seals self.new.seals self.new.unsealed) }
         ensures shows { OnOk result (self.new.seals ≢ self.old.seals → Shows self.new.volume.geometry self.new.volume.half self.new.volume.volume.items self.new.number (picture self.new.tree)) }
         ensures last { OnOk result (is_last (journal_of self.new.volume.half).last self.new.number ≡ true) }
         ensures working { OnOk result (self.new.volume.failed ≡ false) }
         ensures geometry { self.new.volume.geometry ≡ self.old.volume.geometry }
-        ensures size { length self.new.volume.volume.items ≡ length self.old.volume.volume.items }
         ensures moments { D.tells → (n : Now) (actor : ℕ) (items : List Item) → Stands n self.old.tree self.old.seals self.old.unsealed → Shows self.old.volume.geometry self.old.volume.half self.old.volume.volume.items self.old.number items
             → LeavesBy D.Disk self.old.volume.disk self.new.volume.disk (EitherShown (commits n actor command.StreamSync) (self.old.number, items) (further self.old.number 1, picture self.old.tree)) }
         ensures later { D.faults self.old.volume.disk ≤ D.faults self.new.volume.disk }
@@ -208,27 +208,27 @@ impl<D: Disk> Session<D> {
     /// At every moment a crash leaves an image with the picture of before, or, where the command is a sync of something
     /// unsealed, with that of the tree. `Device` comes only where the disk's faults rose, and the volume has failed after it.
     pub fn step(&mut self, alloc: Global, command: &Command) -> Result<Reply, StepFault>
-        requires made { IsMade self.old.tree }
+        requires waits { Waits (volume_of self.old.volume.geometry self.old.volume.volume.items) self.old.pending self.old.tree self.old.unsealed }
         requires working { self.old.volume.failed ≡ false }
         requires last { is_last (journal_of self.old.volume.half).last self.old.number ≡ true }
         requires room { self.old.seals < 2 ^ 64 - 1 }
-        ensures ok { (n : Now) (actor : ℕ) → Stands n self.old.tree self.old.seals self.old.unsealed → IfOk result (λ answer. Answered self.old.volume.geometry.inodes (length self.old.volume.volume.items) (room_in (journal_of self.old.volume.half)) n actor command.now answer self.new.tree self.new.seals self.new.unsealed (room_in (journal_of self.new.volume.half))) }
-        ensures blocked { (n : Now) (actor : ℕ) → Stands n self.old.tree self.old.seals self.old.unsealed → IsErrOf result StepFault.NotBuilt → is_blocked self.old.volume.geometry.inodes (length self.old.volume.volume.items) (room_in (journal_of self.old.volume.half)) n actor command.now ≡ true }
+        ensures waits { OnOk result (Waits (volume_of self.new.volume.geometry self.new.volume.volume.items) self.new.pending self.new.tree self.new.unsealed) }
+        ensures ok { (n : Now) (actor : ℕ) → Stands n self.old.tree self.old.seals self.old.unsealed → IfOk result (λ answer. Answered (sizes self.old.volume.geometry) (room_in (journal_of self.old.volume.half)) n actor command.now answer self.new.tree self.new.seals self.new.unsealed (room_in (journal_of self.new.volume.half))) }
+        ensures blocked { (n : Now) (actor : ℕ) → Stands n self.old.tree self.old.seals self.old.unsealed → IsErrOf result StepFault.NotBuilt → is_blocked (sizes self.old.volume.geometry) (room_in (journal_of self.old.volume.half)) n actor command.now ≡ true }
         ensures quiet { OnOk result (self.new.seals ≡ self.old.seals → IsQuiet self.old.number self.new.number self.old.volume self.new.volume) }
         ensures sealed { OnOk result (self.new.seals ≢ self.old.seals → IsSealed self.old.number self.new.number self.old.seals self.new.seals self.new.unsealed) }
         ensures shows { OnOk result (self.new.seals ≢ self.old.seals → Shows self.new.volume.geometry self.new.volume.half self.new.volume.volume.items self.new.number (picture self.new.tree)) }
         ensures last { OnOk result (is_last (journal_of self.new.volume.half).last self.new.number ≡ true) }
         ensures working { OnOk result (self.new.volume.failed ≡ false) }
         ensures geometry { self.new.volume.geometry ≡ self.old.volume.geometry }
-        ensures size { length self.new.volume.volume.items ≡ length self.old.volume.volume.items }
         ensures moments { D.tells → (n : Now) (actor : ℕ) (items : List Item) → Stands n self.old.tree self.old.seals self.old.unsealed → Shows self.old.volume.geometry self.old.volume.half self.old.volume.volume.items self.old.number items
             → LeavesBy D.Disk self.old.volume.disk self.new.volume.disk (EitherShown (commits n actor command.now) (self.old.number, items) (further self.old.number 1, picture self.old.tree)) }
         ensures later { D.faults self.old.volume.disk ≤ D.faults self.new.volume.disk }
         ensures device { IsErrOf result StepFault.Device → Rose (D.faults self.old.volume.disk) (D.faults self.new.volume.disk) }
     {
         match command {
-            Command::Mkdir { path } => self.make(path, true),
-            Command::Create { path } => self.make(path, false),
+            Command::Mkdir { path } => self.make(alloc, path, true),
+            Command::Create { path } => self.make(alloc, path, false),
             Command::StreamSync => self.sync(alloc),
             _ => Err(StepFault::NotBuilt),
         }
@@ -241,6 +241,7 @@ impl<D: Disk> Session<D> {
         let Session {
             volume,
             tree: _,
+            pending: _,
             number: _,
             seals: _,
             unsealed: _,

@@ -7,7 +7,8 @@ ghost use Rattle.script_text.specs.Texts.{memory_fault_line};
 
 use crate::say::say;
 use ccfs_base::{Bytes, NoMemory, Sink};
-use recovery::{BadImage, OpenFault};
+use image_check::BadImage;
+use recovery::OpenFault;
 use script_text::{
     bad_image_text, bad_line_text, disk_fault_text, memory_fault_text, not_built_text,
     script_fault_text, too_long_text, usage_text,

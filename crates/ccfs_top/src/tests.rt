@@ -1,10 +1,13 @@
 //! Calls of the program on disks in memory, by their exact output.
-use super::trials::{FIRST, FIRST_TEXT, FRESH_TREE, call, fresh, run};
+use super::trials::{FIRST, FIRST_TEXT, FRESH_TREE, call, fresh, made, run};
 use super::*;
 use ccfs_base::{Bytes, MemSink, MemSource, NoMemory};
 use disk_model::{CallKind, Disk, FailPlan, MemDisk};
 use std::alloc::Global;
 use std::test::Fail;
+
+/// Where the volume begins, in bytes from the start of the image.
+const VOLUME: u64 = 260 * 4096;
 
 /// The status of a run on a fresh image with this plan, and what it wrote byte by byte.
 fn run_fresh(alloc: Global, plan: FailPlan, script: &[u8]) -> Result<(u8, MemSink), NoMemory> {
@@ -168,30 +171,72 @@ fn a_command_that_is_not_built_ends_a_run_with_1(rt: HostRuntime) -> Result<(), 
     Ok(())
 }
 
+/// The test fails where `tree` and `run` on a disk don't both tell a bad image by this line.
+fn is_told(rt: &HostRuntime, disk: MemDisk, line: &[u8]) -> Result<(), Fail> {
+    let mut disk = disk;
+    disk.sync()?;
+    let (status, printed) = print(rt.alloc(), disk.image(rt.alloc(), 0)?)?;
+    let mut out = MemSink::new(rt.alloc(), None);
+    let ended = run(rt.alloc(), disk, FIRST, &mut out)?;
+    if (status, ended.status) != (8, 8) || printed.held() != line || out.held() != line {
+        return Err("the image is told otherwise".into());
+    }
+    Ok(())
+}
+
+#[test]
+fn an_image_of_another_length_is_told_by_its_size(rt: HostRuntime) -> Result<(), Fail> {
+    let disk = MemDisk::new(rt.alloc(), 100)?;
+    is_told(&rt, disk, b"bad image Size block 0\n")
+}
+
 #[test]
 fn a_bad_image_is_told_by_its_first_failing_check(rt: HostRuntime) -> Result<(), Fail> {
-    let super_spoilt = spoilt(rt.alloc(), &[(0, 0)])?;
-    let half_1 = spoilt(rt.alloc(), &[(4096, 0xA5)])?;
-    let journal_spoilt = spoilt(rt.alloc(), &[(2 * 4096, 0xA5), (4 * 4096 + 8, 1)])?;
-    let plain_spoilt = spoilt(rt.alloc(), &[(260 * 4096 + 8, 1)])?;
-    for (mut disk, line) in [
+    for (places, line) in [
+        ([(0, 0)].as_slice(), b"bad image Super block 0\n".as_slice()),
+        // The master byte names half 1; and a batch that is open has a record with no bytes.
+        (&[(4096, 0xA5)], b"bad image Journal block 1\n"),
         (
-            MemDisk::new(rt.alloc(), 100)?,
-            b"bad image Size block 0\n".as_slice(),
+            &[(2 * 4096, 0xA5), (4 * 4096 + 8, 1)],
+            b"bad image Journal block 4\n",
         ),
-        (super_spoilt, b"bad image Super block 0\n"),
-        (half_1, b"bad image Journal block 1\n"),
-        (journal_spoilt, b"bad image Journal block 4\n"),
-        (plain_spoilt, b"bad image Plain block 260\n"),
+        // The format, though the fixed inodes aren't used either.
+        (
+            &[(VOLUME + 24, 2), (VOLUME + 8192, 0)],
+            b"bad image Format block 260\n",
+        ),
+        // The orphan directory isn't used; and the root has no kind.
+        (
+            &[(VOLUME + 8192, 1), (VOLUME + 16, 31)],
+            b"bad image Root block 263\n",
+        ),
+        (&[(VOLUME + 12288, 9)], b"bad image Root block 263\n"),
+        // A used inode without a kind; and a data block that no file has.
+        (
+            &[(VOLUME + 8192, 7), (VOLUME + 16, 29)],
+            b"bad image Record block 263\n",
+        ),
+        (
+            &[(VOLUME + 4096, 1), (VOLUME + 8, 245)],
+            b"bad image Bits block 261\n",
+        ),
+        // The count of free blocks, and that of free inodes.
+        (&[(VOLUME + 8, 245)], b"bad image Counts block 260\n"),
+        (&[(VOLUME + 16, 29)], b"bad image Counts block 260\n"),
     ] {
-        disk.sync()?;
-        let (status, out) = print(rt.alloc(), disk.image(rt.alloc(), 0)?)?;
-        assert_eq!(rt; status, 8);
-        assert_eq!(rt; out.held(), line);
-        let mut out = MemSink::new(rt.alloc(), None);
-        let ended = run(rt.alloc(), disk, FIRST, &mut out)?;
-        assert_eq!(rt; ended.status, 8);
-        assert_eq!(rt; out.held(), line);
+        is_told(&rt, spoilt(rt.alloc(), places)?, line)?;
+    }
+    Ok(())
+}
+
+/// Lines that create so many files in the root, whose names have three letters, from this one on.
+fn create_files(script: &mut Bytes, from: u16, count: u16) -> Result<(), NoMemory> {
+    for place in 0..count {
+        script.append(b"0 create /")?;
+        for shift in [8, 4, 0] {
+            script.push(b'a' + ((from.wrapping_add(place) >> shift) % 16) as u8)?;
+        }
+        script.push(b'\n')?;
     }
     Ok(())
 }
@@ -199,24 +244,10 @@ fn a_bad_image_is_told_by_its_first_failing_check(rt: HostRuntime) -> Result<(),
 #[test]
 fn the_513th_row_since_a_sync_is_not_built(rt: HostRuntime) -> Result<(), Fail> {
     let mut script = Bytes::new(rt.alloc());
-    for place in 0..513u16 {
-        script.append(b"0 create /")?;
-        for shift in [6, 3, 0] {
-            script.push(b'a' + ((place >> shift) % 8) as u8)?;
-        }
-        script.append(if place < 512 { b"\n" } else { b"x\n" })?;
-    }
-    let mut out = MemSink::new(rt.alloc(), None);
-    let words = ["ccfs", "mkfs", "A", "512", "1024"];
-    let made = call(
-        rt.alloc(),
-        &words,
-        MemDisk::new(rt.alloc(), 0)?,
-        b"",
-        &mut out,
-    )?;
+    create_files(&mut script, 0, 513)?;
+    let disk = made(rt.alloc(), "512", "1024")?;
     let mut out = MemSink::in_pieces(rt.alloc(), 1, None);
-    let ended = run(rt.alloc(), made.disk, script.all(), &mut out)?;
+    let ended = run(rt.alloc(), disk, script.all(), &mut out)?;
     assert_eq!(rt; ended.status, 1);
     assert_eq!(rt; out.held().len(), 512 * 5 + 19);
     assert!(rt; out.held().ends_with(b"0 ok\nline 513 not built\n"));
@@ -225,36 +256,28 @@ fn the_513th_row_since_a_sync_is_not_built(rt: HostRuntime) -> Result<(), Fail> 
 
 #[test]
 fn a_sync_that_does_not_fit_the_journal_is_not_built(rt: HostRuntime) -> Result<(), Fail> {
-    // With n names of 64 bytes a batch has 54 + 78 n bytes: 114 of them have 517,446, and 115 more than 524,288.
+    // A batch of n rows has 36 + 170 n bytes: six of 512 rows 522,456, with one of 10 rows 524,192, and with one of 1 row more
+    // than 524,288.
     let mut script = Bytes::new(rt.alloc());
-    for place in 0..120u8 {
-        script.append(b"0 create /")?;
-        script.push(b'a' + place / 16)?;
-        script.push(b'a' + place % 16)?;
-        script.append(&[b'x'; 62])?;
-        script.append(b"\n0 streamsync\n")?;
+    for sync in 0..6 {
+        create_files(&mut script, 512 * sync, 512)?;
+        script.append(b"0 streamsync\n")?;
     }
-    let mut out = MemSink::new(rt.alloc(), None);
-    let words = ["ccfs", "mkfs", "A", "512", "128"];
-    let made = call(
-        rt.alloc(),
-        &words,
-        MemDisk::new(rt.alloc(), 0)?,
-        b"",
-        &mut out,
-    )?;
+    create_files(&mut script, 3072, 10)?;
+    script.append(b"0 streamsync\n")?;
+    create_files(&mut script, 3082, 1)?;
+    script.append(b"0 streamsync\n")?;
+    let disk = made(rt.alloc(), "2048", "8192")?;
     let mut out = MemSink::in_pieces(rt.alloc(), 1, None);
-    let ended = run(rt.alloc(), made.disk, script.all(), &mut out)?;
-    assert_eq!(rt; ended.status, 1);
-    assert!(rt;
-        out.held()
-            .ends_with(b"0 ok 114\n0 ok\nline 230 not built\n")
-    );
+    let ended = run(rt.alloc(), disk, script.all(), &mut out)?;
+    assert_eq!(rt; (ended.status, ended.disk.written()), (1, 524_192 + 7));
+    assert!(rt; out.held().ends_with(b"0 ok 7\n0 ok\nline 3091 not built\n"));
     let (status, out) = print(rt.alloc(), ended.disk)?;
     assert_eq!(rt; status, 0);
     assert!(rt;
-        out.held()
-            .starts_with(b"batches 114\ndir / entries 114 changes 114\n")
+        out.held().starts_with(
+            b"batches 7\ndir / entries 3082 changes 3082\nfile /aaa length 0 data -\n"
+        )
     );
     Ok(())
 }

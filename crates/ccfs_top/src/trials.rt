@@ -50,16 +50,16 @@ pub fn run(
     call(alloc, &["ccfs", "run", "A", "S"], disk, script, out)
 }
 
-/// The image that `mkfs A 512 32` makes of an empty disk.
-pub fn fresh(alloc: Global) -> Result<MemDisk, NoMemory> {
+/// The image that `mkfs` makes with so many blocks and inodes, of an empty disk.
+pub fn made(alloc: Global, blocks: &str, inodes: &str) -> Result<MemDisk, NoMemory> {
     let mut out = MemSink::new(alloc, None);
     let disk = MemDisk::new(alloc, 0)?;
-    let ended = call(
-        alloc,
-        &["ccfs", "mkfs", "A", "512", "32"],
-        disk,
-        b"",
-        &mut out,
-    )?;
+    let words = ["ccfs", "mkfs", "A", blocks, inodes];
+    let ended = call(alloc, &words, disk, b"", &mut out)?;
     ended.disk.image(alloc, 0)
+}
+
+/// The image that `mkfs A 512 32` makes of an empty disk.
+pub fn fresh(alloc: Global) -> Result<MemDisk, NoMemory> {
+    made(alloc, "512", "32")
 }

@@ -1,3 +1,8 @@
-pub mod Alone
-pub mod Written
+pub mod Told
 pub mod Recovers
+pub mod Tables
+pub mod Standing
+pub mod Written
+pub mod Levels
+pub mod Renumbered
+pub mod Carried

@@ -1,12 +1,17 @@
 -- Images whose first blocks and tables are written.
-use Rattle.std.proofs.Common.{◌≡◌, ℕ, ◌+◌, ◌-◌, ◌*◌, ◌≤◌, Bool, false, eqb, eq-eqb, Option, Some, None, List, ◌++◌, length, get_or, take, drop, replicate, refl, sym, ◌∙◌, ap, arith, length-append, subst}
-use Rattle.std.proofs.lemmas.List.{take-take, take_all, drop-take, drop-drop, take_at, drop_at, append_assoc, length-take-le, length-replicate, take-replicate, drop-replicate}
+use Rattle.std.proofs.Common.{◌≡◌, ℕ, ◌+◌, ◌-◌, ◌*◌, ◌≤◌, Bool, false, eqb, eq-eqb, Option, Some, None, List, ◌++◌, length, get_or, take, drop, replicate, ◌%◌, ◌<◌, ◌&&◌, true, refl, sym, ◌∙◌, ap, arith, length-append, subst}
+use Rattle.std.proofs.lemmas.Bool.{le-leb}
+use Rattle.std.proofs.lemmas.List.{get_or_append_left, take-take, take_all, drop-take, drop-drop, take_at, drop_at, append_assoc, length-take-le, length-replicate, take-replicate, drop-replicate}
 use Rattle.disk_model.specs.Bytes.{part, patched, resized}
 use Rattle.disk_model.specs.Past.{length-patched, length-resized, Torn-patched}
 use Rattle.disk_model.proofs.Places.{part-patched, torn_part_before}
 use Rattle.block_layout.specs.declared.geometry.Geometry.{Geometry}
 use Rattle.block_layout.specs.declared.superblock.SuperField.{SuperField}
 use Rattle.block_layout.specs.Super.{super_bytes, blocks_named, inodes_named, first_wrong}
+use Rattle.block_layout.specs.Sizes.{data_start}
+use Rattle.tree_model.specs.Rows.{alone}
+use Rattle.image_model.specs.Volumes.{Volume, number}
+use Rattle.image_model.specs.Trees.{tree_of}
 use Rattle.gate_journal.specs.Journal.{gates_of, is_open_behind, open_batches}
 use Rattle.gate_journal.specs.Loading.{empty}
 use Rattle.gate_journal.proofs.Closed.{closed_journal}
@@ -16,15 +21,15 @@ use Rattle.atomic_volume.specs.Held.{IsSized}
 use Rattle.atomic_volume.proofs.Bytes.{byte_read}
 use Rattle.atomic_volume.proofs.Laid.{quotient, good_length}
 use Rattle.atomic_volume.proofs.Replays.{known_from, opened_right, batches_are}
-use Rattle.plain_image.specs.Opened.{opened as tree_spelled}
-use Rattle.recovery.specs.Pictures.{where_last, tree_held, if_opened}
-use Rattle.recovery.specs.Fresh.{IsFresh, IsFront}
-use Rattle.recovery.proofs.Alone.{zeros_open}
+use Rattle.image_model.specs.Fresh.{IsFresh as IsFreshVolume}
+use Rattle.recovery.specs.Recovering.{volume_in, tree_held, if_opened, where_sound}
+use Rattle.recovery.specs.Fresh.{IsFresh, IsFront, AreTables}
+use Rattle.recovery.proofs.Standing.{fresh_stands}
 
 -- ---- what such an image opens to
 
--- What stands where on a fresh image: its length, the superblock, a master byte of 0, closed gates and zeros at the volume's
--- start.
+-- What stands where on a fresh image: its length, the superblock, a master byte of 0, closed gates, and the metadata of a fresh
+-- volume.
 pub record Stands (g : Geometry) (c start : List ℕ) : Type 0 where
   pub long : length c ≡ 4096 * g.blocks
   pub named : take 36 c ≡ start
@@ -34,10 +39,13 @@ pub record Stands (g : Geometry) (c start : List ℕ) : Type 0 where
   pub master : get_or c 4096 0 ≡ 0
   pub gates : ℕ
   pub closed : gates_of 0 c ≡ replicate gates 0
-  pub zeros : ℕ
+  pub tables : List ℕ
   pub rest : List ℕ
-  pub tables : volume_area c ≡ replicate zeros 0 ++ rest
-  pub some : 12 ≤ zeros
+  pub area : volume_area c ≡ tables ++ rest
+  pub fresh : AreTables g tables
+
+both : {a b : Bool} → a ≡ true → b ≡ true → (a && b) ≡ true
+both p q = (λ i. p i && q i)
 
 laid_out : (g : Geometry) (c start : List ℕ) → Stands g c start → IsLaidOut c
 laid_out g c start is =
@@ -50,24 +58,46 @@ laid_out g c start is =
           ∙ ap (λ (b : Bool). or_blocks None b) (eq-eqb (blocks_named start) g.blocks is.blocks);
     }
 
+-- the volume that it opens to
+abbrev contents_of : Geometry → List ℕ → Contents
+contents_of g c = record { blocks = g.blocks; inodes = g.inodes; bytes = volume_area c; last = None }
+
+fresh_volume : (g : Geometry) (c start : List ℕ) → Stands g c start → IsFreshVolume (volume_in (contents_of g c))
+fresh_volume g c start is = record {
+  bytes = λ x h.
+      let within : x < length is.tables = omega (arith, is.fresh.long, g.first_data_place, h) in
+      ap (λ (l : List ℕ). get_or l x 0) is.area ∙ get_or_append_left is.tables is.rest 0 x within ∙ is.fresh.fresh x within;
+}
+
+-- it holds the root alone
+alone_held : (g : Geometry) (c start : List ℕ) → Stands g c start → tree_held (contents_of g c) ≡ Some (0, alone 0)
+alone_held g c start is =
+    let v : Volume = volume_in (contents_of g c) in
+    let room : data_start g.inodes + 64 ≤ g.blocks = omega (arith, g.data_to_the_end, g.least_data, g.first_data_place) in
+    let stands = fresh_stands v g.least_inodes g.most_inodes (both (le-leb 512 g.blocks g.least_blocks) (le-leb g.blocks 16384 g.most_blocks))
+    (both (both (both (le-leb 32 g.inodes g.least_inodes) (le-leb g.inodes 8192 g.most_inodes)) (eq-eqb (g.inodes % 32) 0 g.inodes_in_steps))
+    (le-leb (data_start g.inodes + 64) g.blocks room))
+    (fresh_volume g c start is) in
+    ap (λ o. where_sound o (number v, tree_of v)) stands.0 ∙ (λ i. Some (stands.1 i, stands.2 i))
+
 pub fresh_where : (g : Geometry) (c start : List ℕ) → Stands g c start → IsFresh g c
 fresh_where g c start is =
     let built : is_unbuilt c ≡ false = ap (λ (b : ℕ). eqb b 165) is.master in
     let known = known_from (is_open_behind 0 c) (open_batches 0 (length (volume_area c)) c) empty (closed_journal is.gates 0 (length (volume_area c)) c is.closed) in
     let blocks : blocks_named (superblock c) ≡ g.blocks = ap blocks_named is.named ∙ is.blocks in
     let inodes : inodes_named (superblock c) ≡ g.inodes = ap inodes_named is.named ∙ is.inodes in
-    let opens : opened c ≡ Some (record { blocks = g.blocks; inodes = g.inodes; bytes = volume_area c; last = None }) =
+    let opens : opened c ≡ Some (contents_of g c) =
     opened_right c (laid_out g c start is)
     ∙ ap (replayed (blocks_named (superblock c)) (inodes_named (superblock c)) (volume_area c)) (batches_are c 0 (length (volume_area c)) built refl refl ∙ known.are)
     ∙ (λ i. Some (record { blocks = blocks i; inodes = inodes i; bytes = put_on (volume_area c) (known.ranges i); last = known.last i })) in
     record {
-      contents = record { blocks = g.blocks; inodes = g.inodes; bytes = volume_area c; last = None };
+      contents = contents_of g c;
       opens = opens;
       built = built;
       blocks = refl;
       inodes = refl;
       no_batch = refl;
-      tree = ap (λ (o : Option Contents). if_opened tree_held o) opens ∙ ap (λ (l : List ℕ). where_last None (tree_spelled l)) is.tables ∙ ap (where_last None) (zeros_open is.zeros is.rest is.some);
+      tree = ap (λ (o : Option Contents). if_opened tree_held o) opens ∙ alone_held g c start is;
     }
 
 -- ---- what is written
@@ -122,20 +152,18 @@ pub front_is : (g : Geometry) (size len : ℕ) (old new : List ℕ) → 36 ≤ s
     → first_wrong (super_bytes g.blocks g.inodes) ≡ None → blocks_named (super_bytes g.blocks g.inodes) ≡ g.blocks → inodes_named (super_bytes g.blocks g.inodes) ≡ g.inodes → IsFront g size new
 front_is g size len old new room same short is right blocks inodes = front_parts g size len old new (super_bytes g.blocks g.inodes) room same refl short is right blocks inodes
 
--- The sizes of what is written: of the image, of the front, and of the zeros from a place on.
-pub record AreSizes (g : Geometry) (size front place zeros : ℕ) : Type 0 where
+-- The sizes of what is written: of the image, of the front, and the place of the tables.
+pub record AreSizes (g : Geometry) (size front place : ℕ) : Type 0 where
   pub size_is : size ≡ 4096 * g.blocks
   pub front_is : front ≡ 16384
   pub place_is : place ≡ 1064960
-  pub zeros_are : zeros ≡ (g.first_data - 260) * 4096
 
-made : (g : Geometry) (old front tables : List ℕ) (size long place zeros : ℕ) → AreSizes g size long place zeros → (is : IsFront g long front) → tables ≡ replicate zeros 0
+made : (g : Geometry) (old front tables : List ℕ) (size long place : ℕ) → AreSizes g size long place → (is : IsFront g long front) → AreTables g tables
     → Stands g (patched (patched (resized old size) 0 front) place tables) is.superblock
-made g old front tables size long place zeros sizes is are =
+made g old front tables size long place sizes is are =
     let resized_long : length (resized old size) ≡ size = length-resized old size in
-    let tables_long : length tables ≡ zeros = ap (λ (l : List ℕ). length l) are ∙ length-replicate {A = ℕ} zeros 0 in
     let front_long : length front ≡ 16384 = is.long ∙ sizes.front_is in
-    let room : place + length tables ≤ length (resized old size) = omega (arith, resized_long, tables_long, sizes.size_is, sizes.place_is, sizes.zeros_are, g.data_to_the_end, g.least_data, g.first_data_place) in
+    let room : place + length tables ≤ length (resized old size) = omega (arith, resized_long, are.long, sizes.size_is, sizes.place_is, g.data_to_the_end, g.least_data, g.first_data_place) in
     let before : length front ≤ place = omega (arith, front_long, sizes.place_is) in
     let behind : (k m : ℕ) → 36 ≤ k → k + m ≤ 16384 → part k m (patched (patched (resized old size) 0 front) place tables) ≡ replicate m 0 =
     λ k m ge le. whole_part (resized old size) front tables place k m before room (omega (arith, front_long, le))
@@ -151,15 +179,16 @@ made g old front tables size long place zeros sizes is are =
       master = byte_read 4096 (patched (patched (resized old size) 0 front) place tables) 0 (behind 4096 1 (omega arith) (omega arith));
       gates = 4096;
       closed = behind 8192 4096 (omega arith) (omega arith);
-      zeros = zeros;
+      tables = tables;
       rest = drop (place + length tables) (patched (resized old size) 0 front);
-      tables = ap (λ (k : ℕ). drop k (patched (patched (resized old size) 0 front) place tables)) (sym sizes.place_is) ∙ from_place (patched (resized old size) 0 front) place tables (omega (arith, middle_long, room)) ∙ ap (λ (l : List ℕ). l ++ drop (place + length tables) (patched (resized old size) 0 front)) are;
-      some = omega (arith, sizes.zeros_are, g.first_data_place, g.least_inodes);
+      area = ap (λ (k : ℕ). drop k (patched (patched (resized old size) 0 front) place tables)) (sym sizes.place_is) ∙ from_place (patched (resized old size) 0 front) place tables (omega (arith, middle_long, room));
+      fresh = are;
     }
 
 -- what four calls leave
-pub made_by : (g : Geometry) (old first second third seen bytes front tables : List ℕ) (size long place zeros : ℕ) → AreSizes g size long place zeros → IsFront g long front → bytes ≡ front → tables ≡ replicate zeros 0
-    → first ≡ resized old size → second ≡ patched first 0 bytes → third ≡ patched second place tables → seen ≡ third → IsFresh g seen
-made_by g old first second third seen bytes front tables size long place zeros sizes is same are a b c d =
-    let whole : seen ≡ patched (patched (resized old size) 0 front) place tables = d ∙ c ∙ ap (λ (l : List ℕ). patched l place tables) (b ∙ (λ i. patched (a i) 0 (same i))) in
-    subst (IsFresh g) (sym whole) (fresh_where g (patched (patched (resized old size) 0 front) place tables) is.superblock (made g old front tables size long place zeros sizes is are))
+pub made_by : (g : Geometry) (old first second third seen bytes front tables read : List ℕ) (size long place : ℕ) → AreSizes g size long place → IsFront g long front → bytes ≡ front
+    → AreTables g tables → read ≡ tables → first ≡ resized old size → second ≡ patched first 0 bytes → third ≡ patched second place read → seen ≡ third → IsFresh g seen
+made_by g old first second third seen bytes front tables read size long place sizes is same are tables_same a b c d =
+    let second_is : second ≡ patched (resized old size) 0 front = b ∙ (λ i. patched (a i) 0 (same i)) in
+    let whole : seen ≡ patched (patched (resized old size) 0 front) place tables = d ∙ c ∙ (λ i. patched (second_is i) place (tables_same i)) in
+    subst (IsFresh g) (sym whole) (fresh_where g (patched (patched (resized old size) 0 front) place tables) is.superblock (made g old front tables size long place sizes is are))

@@ -1,5 +1,4 @@
-pub mod Pictures
+pub mod Recovering
 pub mod Bad
 pub mod Fresh
-pub mod Shown
 pub mod Opens

@@ -1,52 +1,20 @@
 //! Why an image isn't made or opened.
-ghost use Rattle.std.specs.Prelude.{◌≡◌, List, ℕ};
+ghost use Rattle.std.specs.Prelude.{◌≡◌, List, ℕ, false, Some};
+ghost use Rattle.atomic_volume.specs.Opening.{Contents, opened, is_unbuilt};
 ghost use Rattle.atomic_volume.specs.Refusals.{Refuses, IsBad};
 ghost use Rattle.atomic_volume.specs.declared.fault.VolumeFault.TheVariants as volume;
-ghost use Rattle.recovery.specs.Bad.{Says, kind_name};
+ghost use Rattle.image_model.specs.Checks.{first_failure_for_now};
+ghost use Rattle.image_check.specs.Verdicts.{Tells};
+ghost use Rattle.recovery.specs.Bad.{Says};
+ghost use Rattle.recovery.specs.Recovering.{volume_in};
 ghost use Rattle.recovery.specs.declared.fault.OpenFault.TheVariants.{Device};
 ghost use Rattle.recovery.specs.declared.fault.OpenFault.TheVariants as open_fault;
 
 use atomic_volume::VolumeFault;
 use disk_model::DiskFailed;
+use image_check::{BadImage, BadKind, CheckFault};
 use std::alloc::{AllocError, AllocFailed};
 use thiserror::Error;
-
-/// Which check of an image fails.
-#[derive(Clone, Copy, Debug, PartialEq, Eq, Drop)]
-pub enum BadKind {
-    /// The length isn't whole blocks, or isn't an image's.
-    Size,
-    /// A field of the superblock is wrong.
-    Super,
-    /// A batch that counts can't be read.
-    Journal,
-    /// The volume holds no plain picture of a tree with the right number. It goes when volumes get fields of their own.
-    Plain,
-}
-
-impl BadKind {
-    /// The kind as it is spelled where it is printed.
-    pub fn name(self) -> &'static [u8]
-        ensures { result.now ≡ kind_name self }
-    {
-        match self {
-            BadKind::Size => b"Size",
-            BadKind::Super => b"Super",
-            BadKind::Journal => b"Journal",
-            BadKind::Plain => b"Plain",
-        }
-    }
-}
-
-/// The first check of an image that fails, and where.
-#[derive(Clone, Copy, Debug, PartialEq, Eq, Drop, Error)]
-#[error("bad image {kind:?} block {block}")]
-pub struct BadImage {
-    /// Which check fails.
-    pub kind: BadKind,
-    /// The block of the image.
-    pub block: u32,
-}
 
 /// Why an image isn't opened or viewed.
 #[derive(Clone, Copy, Debug, PartialEq, Eq, Drop, Error)]
@@ -125,5 +93,16 @@ pub fn of_volume(fault: VolumeFault) -> OpenFault
     };
     OpenFault::Bad {
         bad: BadImage { kind, block },
+    }
+}
+
+/// The refusal of a volume by its checks as one of an image.
+pub fn of_check(fault: CheckFault) -> OpenFault
+    ensures says { (c : List ℕ) (contents : Contents) → opened c ≡ Some contents → is_unbuilt c ≡ false → Tells (first_failure_for_now contents.last (volume_in contents)) fault → Says c result }
+    ensures device { result ≡ Device → ⊥ }
+{
+    match fault {
+        CheckFault::Bad { bad } => OpenFault::Bad { bad },
+        CheckFault::NoMemory => OpenFault::NoMemory,
     }
 }

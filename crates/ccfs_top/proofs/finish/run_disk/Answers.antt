@@ -1,4 +1,4 @@
-use Rattle.std.proofs.Common.{sym, subst}
+use Rattle.std.proofs.Common.{sym, subst, arith}
 use Rattle.ccfs_top.specs.declared.stop.Stop.{Stop}
 use Rattle.ccfs_top.specs.Images.{Image, IsImage, Holds}
 use Rattle.ccfs_top.specs.Left.{Halts}
@@ -28,7 +28,7 @@ returns-clause-done g c = λ told.
     let d = g.D.Disk in
     let s = c.in-Ok.session in
     let calls = c.args.calls.now in
-    let image = image_by s.number s.tree s.volume.geometry s.volume.half s.volume.volume.items in
+    let image = image_by s.number s.tree s.volume.geometry s.volume.half in
     let o = c.in-Ok.ensures.opened told in
     let old = g.K.Sink.held c.args.out.now in
     let new = g.K.Sink.held c.run_session.new.out in
@@ -41,10 +41,15 @@ returns-clause-halts g c = λ told.
     let d = g.D.Disk in
     let s = c.in-Ok.session in
     let calls = c.args.calls.now in
-    let image = image_by s.number s.tree s.volume.geometry s.volume.half s.volume.volume.items in
+    let image = image_by s.number s.tree s.volume.geometry s.volume.half in
     let o = c.in-Ok.ensures.opened told in
     let old = g.K.Sink.held c.args.out.now in
     let new = g.K.Sink.held c.run_session.new.out in
     if_err c.run_session.result _ _
     (λ refused is. (o.0, o.1, (Holds image, o.2, halts_behind d c.args.disk s.volume.disk refused.kept calls image refused.fault g.K.Sink.tells old new (g.met.D.Disk.counts_now told) (c.in-Ok.ensures.quiet told) is)))
     (c.run_session.ensures.halts told)
+
+pub returns-clause-device : goal.returns-clause-device
+returns-clause-device g c =
+    let later = c.in-Ok.ensures.later in
+    if_err c.run_session.result _ _ (λ refused rises is. (let cause = rises is in omega (arith, cause, later))) c.run_session.ensures.device

@@ -1,4 +1,4 @@
-use Rattle.std.proofs.Common.{◌-◌, ◌*◌, refl, ◌∙◌}
+use Rattle.std.proofs.Common.{refl}
 use Rattle.recovery.proofs.Written.{made_by}
 use Rattle.recovery.proofs.making.make.Goals as goal
 
@@ -9,11 +9,12 @@ returns-clause-fresh g c = λ told settled.
     let second_settled = c.in_ok-write_at.ensures.doubt told first_settled in
     let third_settled = c.in_ok-write_at-2.ensures.doubt told second_settled in
     made_by c.args.geometry.now (d.seen c.args.disk.now) (d.seen c.set_size.new.self) (d.seen c.write_at.new.self) (d.seen c.write_at-2.new.self) (d.seen c.sync.new.self)
-    c.deref.result.now c.in_ok-front.front.items c.deref-2.result.now c.bytes.result 16384 c.from.result ((c.args.geometry.now.first_data - 260) * 4096)
-    (record { size_is = c.bytes.ensures; front_is = refl; place_is = c.from.ensures; zeros_are = refl })
+    c.deref.result.now c.in_ok-front.front.items c.in_ok-tables.tables.items c.deref-2.result.now c.bytes.result 16384 c.from.result
+    (record { size_is = c.bytes.ensures; front_is = refl; place_is = c.from.ensures })
     c.in_ok-front.ensures
     c.deref.ensures.value
-    (c.deref-2.ensures.value ∙ c.in_ok-zeros.ensures.items_if_clones_equal (λ y e. e))
+    c.in_ok-tables.ensures
+    c.deref-2.ensures.value
     (c.in_ok-set_size.ensures.put told settled)
     (c.in_ok-write_at.ensures.put told first_settled)
     (c.in_ok-write_at-2.ensures.put told second_settled)

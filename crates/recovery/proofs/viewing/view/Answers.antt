@@ -1,22 +1,24 @@
-use Rattle.std.proofs.Common.{ℕ, List, sym, ap, ◌∙◌, subst}
-use Rattle.plain_image.specs.Opened.{opened as tree_spelled}
-use Rattle.plain_image.specs.Reading.{Explains}
-use Rattle.atomic_volume.specs.Seen.{contents_seen}
-use Rattle.recovery.specs.Pictures.{where_last}
-use Rattle.recovery.specs.Bad.{Says}
-use Rattle.recovery.proofs.Recovers.{plain_says}
+use Rattle.std.proofs.Common.{ap}
+use Rattle.image_model.specs.Volumes.{volume_of}
+use Rattle.atomic_volume.specs.Opening.{Contents}
+use Rattle.atomic_volume.specs.Held.{contents_by}
+use Rattle.recovery.proofs.Recovers.{held_as_read, told_as_read, recovers_to}
 use Rattle.recovery.proofs.viewing.view.Goals as goal
 
 pub returns-in-Err-clause-says : goal.returns-in-Err-clause-says
 returns-in-Err-clause-says g c = λ told settled.
     c.of_volume.ensures.says (g.D.Disk.seen c.args.disk.now) (c.in-Err.ensures.refuses told settled)
 
+pub returns-in-Ok-check-clause-recovers : goal.returns-in-Ok-check-clause-recovers
+returns-in-Ok-check-clause-recovers g c = λ told settled.
+    let image = c.in-Ok.image in let placed = c.in-Ok-check.placed in
+    let contents : Contents = contents_by image.geometry image.half image.volume.items in
+    recovers_to (g.D.Disk.seen c.args.disk.now) contents (placed.number, placed.tree) (c.in-Ok.ensures.holds told settled).opens
+    (held_as_read contents image.geometry c.deref.result.now c.last.result placed (ap (volume_of image.geometry) c.deref.ensures.value) c.last.ensures c.in-Ok-check.ensures)
+
 pub returns-clause-says : goal.returns-clause-says
 returns-clause-says g c = λ told settled.
-    let seen = g.D.Disk.seen c.args.disk.now in let looked = c.in-Ok.looked in
-    subst (Says seen) (sym c.of_plain.ensures)
-    (plain_says seen (contents_seen looked) c.in-Err-tree_in.fault (c.in-Ok.ensures.opens told settled) (c.in-Ok.ensures.built told settled)
-    (subst (λ (l : List ℕ). Explains (where_last looked.last (tree_spelled l)) c.in-Err-tree_in.fault) c.all.ensures c.in-Err-tree_in.ensures))
-
-pub returns-in-Ok-tree_in-clause-held : goal.returns-in-Ok-tree_in-clause-held
-returns-in-Ok-tree_in-clause-held g c = (contents_seen c.in-Ok.looked, ap (λ (l : List ℕ). where_last c.in-Ok.looked.last (tree_spelled l)) (sym c.all.ensures) ∙ c.in-Ok-tree_in.ensures)
+    let image = c.in-Ok.image in let holds = c.in-Ok.ensures.holds told settled in
+    let contents : Contents = contents_by image.geometry image.half image.volume.items in
+    c.of_check.ensures.says (g.D.Disk.seen c.args.disk.now) contents holds.opens holds.built
+    (told_as_read contents image.geometry c.deref.result.now c.last.result c.in-Err-check.fault (ap (volume_of image.geometry) c.deref.ensures.value) c.last.ensures c.in-Err-check.ensures)

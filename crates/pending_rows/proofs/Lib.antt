@@ -1,0 +1,15 @@
+pub mod Fronts
+pub mod Puts
+pub mod Weights
+pub mod MadeTrees
+pub mod MadeRecords
+pub mod Carrying
+pub mod OneMore
+pub mod Numbering
+pub mod Batching
+pub mod Pairing
+pub mod FreeInodes
+pub mod ClearBlocks
+pub mod Standing
+pub mod Opening
+pub mod NothingWaits

@@ -1,0 +1,4 @@
+pub mod Made
+pub mod Ranges
+pub mod Waiting
+pub mod Laws

@@ -1,4 +1,0 @@
-pub mod Plain
-pub mod Reading
-pub mod Levels
-pub mod Opened
