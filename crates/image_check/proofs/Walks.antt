@@ -1,19 +1,19 @@
 -- A list in preorder by the entries of directories is that of the rows, and no row is as many levels down as there are inodes.
 use Rattle.std.proofs.Common.{◌≡◌, ℕ, zero, suc, ◌+◌, ◌-◌, ◌<◌, ◌≤◌, List, [], ◌∷◌, ◌++◌, refl, sym, ap, ◌∙◌, inl, inr, arith}
 use Rattle.std.proofs.Math.Path.{ap₂}
-use Rattle.std.specs.Prelude.{Bool, true, false, cond, is_some, Option, Some, None, map, flat_map}
+use Rattle.std.specs.Prelude.{Bool, true, false, cond, Option, Some, None, map, flat_map}
 use Rattle.std.specs.Ordering.{nat_cmp}
 use Rattle.std.specs.Cmp.{nat_cmp_total}
-use Rattle.std.specs.FinMap.{get, len, len-empty, len-insert, len-remove, contains_key}
+use Rattle.std.specs.FinMap.{len, len-empty, len-insert, len-remove, contains_key}
 use Rattle.tree_model.specs.declared.rows.Row.{Row}
-use Rattle.tree_model.specs.Rows.{Rows, place_of, parent_of, up, up_from, IsTree}
+use Rattle.tree_model.specs.Rows.{Rows, parent_of, up, up_from, IsTree}
 use Rattle.tree_model.specs.Updates.{store}
 use Rattle.tree_model.specs.Entries.{children}
-use Rattle.tree_model.proofs.Chains.{up_first, up_last, parent_entry, root_top}
-use Rattle.tree_model.proofs.Above.{Chain, chain_short, dir_chain}
+use Rattle.tree_model.proofs.Chains.{up_last, root_top}
+use Rattle.tree_model.proofs.Above.{chain_short}
 use Rattle.image_model.specs.Trees.{rows_below, preorder}
 use Rattle.image_model.proofs.PreorderLists.{In}
-use Rattle.image_model.proofs.Preorder.{is_row}
+use Rattle.image_model.proofs.Preorder.{is_row, row_chain}
 use Rattle.image_check.specs.Listed.{listed}
 
 -- ---- the same entries, the same list
@@ -53,18 +53,6 @@ module _ (below : ℕ → List ℕ) (f : ℕ → Option ℕ) (child : (x y : ℕ
 -- ---- no row is as many levels down as there are rows
 
 module _ (t : Rows) (tree : IsTree t) where
-  row_chain : (m x : ℕ) → is_some (get t x) ≡ true → up (parent_of t) m x ≡ Some 0 → Chain (parent_of t) t m x
-  row_chain zero x there p = there
-  row_chain (suc m) x there p = (
-    there,
-    elim (parent_of t x) as (λ o. parent_of t x ≡ o → (y : ℕ) × (o ≡ Some y) × Chain (parent_of t) t m y) [
-      | None ↦ λ e. absurd (let z : ◌≡◌ {A = Option ℕ} None (Some 0) = sym (up_last (parent_of t) m x e) ∙ p in cc)
-      | Some y ↦ λ e.
-          let w = parent_entry (place_of t x) y e in
-          (y, refl, dir_chain t tree m y (tree.parents x y w.0 w.1) (sym (up_first (parent_of t) m x y e) ∙ p))
-    ] refl,
-  )
-
   has_parent : (m x : ℕ) → up (parent_of t) (suc m) x ≡ Some 0 → (y : ℕ) × (parent_of t x ≡ Some y)
   has_parent m x p = elim (parent_of t x) as (λ o. parent_of t x ≡ o → (y : ℕ) × (o ≡ Some y)) [
     | None ↦ λ e. absurd (let z : ◌≡◌ {A = Option ℕ} None (Some 0) = sym (up_last (parent_of t) m x e) ∙ p in cc)
@@ -75,7 +63,7 @@ module _ (t : Rows) (tree : IsTree t) where
   no_longer zero x less p = omega arith
   no_longer (suc m) x less p =
       let w = has_parent m x p in
-      let short : suc m < len t = chain_short (parent_of t) 0 (root_top t tree) (suc m) t x p (row_chain (suc m) x (is_row t tree x w.0 w.1) p) in
+      let short : suc m < len t = chain_short (parent_of t) 0 (root_top t tree) (suc m) t x p (row_chain t tree (suc m) x (is_row t tree x w.0 w.1) p) in
       omega arith
 
 -- ---- how many rows there are

@@ -70,7 +70,7 @@ module _ (t : Rows) (tree : IsTree t) where
   sorted : (d : ℕ) → is_sorted bytes_cmp (children t d) ≡ true
   sorted d = is_true _ (entries_sorted (entries_of t d))
 
-  in_child : (d : ℕ) (e : List ℕ × ℕ) → In (children t d) e → IsEntry t d e.0 e.1
+  pub in_child : (d : ℕ) (e : List ℕ × ℕ) → In (children t d) e → IsEntry t d e.0 e.1
   in_child d e h = entry_stands t d e.0 e.1 (get-entries (entries_of t d) e.0 ∙ in_found (children t d) e (sorted d) h)
 
   child_in : (d : ℕ) (n : List ℕ) (x : ℕ) → IsEntry t d n x → In (children t d) (n, x)
@@ -155,7 +155,7 @@ module _ (t : Rows) (tree : IsTree t) where
     | Some r ↦ λ p. refl
   ] e
 
-  row_chain : (m x : ℕ) → is_some (get t x) ≡ true → up (parent_of t) m x ≡ Some 0 → Chain (parent_of t) t m x
+  pub row_chain : (m x : ℕ) → is_some (get t x) ≡ true → up (parent_of t) m x ≡ Some 0 → Chain (parent_of t) t m x
   row_chain zero x there p = there
   row_chain (suc m) x there p = (
     there,

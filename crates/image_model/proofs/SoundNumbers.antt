@@ -22,10 +22,10 @@ pub record Numbers (t : Rows) (inodes : List ℕ) : Type 0 where
 -- ---- a row with another number for its parent
 
 -- a place with another number for its directory
-abbrev moved : (ℕ → ℕ) → Option (ℕ × List ℕ) → Option (ℕ × List ℕ)
+abbrev pub moved : (ℕ → ℕ) → Option (ℕ × List ℕ) → Option (ℕ × List ℕ)
 moved f o = option_map (λ (p : ℕ × List ℕ). (f p.0, p.1)) o
 
-spot_moved : (f : ℕ → ℕ) (o : Option ℕ) (n : List ℕ) → spot (option_map f o) n ≡ moved f (spot o n)
+pub spot_moved : (f : ℕ → ℕ) (o : Option ℕ) (n : List ℕ) → spot (option_map f o) n ≡ moved f (spot o n)
 spot_moved f None n = refl
 spot_moved f (Some d) n = refl
 
@@ -37,7 +37,7 @@ kind_moved : (f : ℕ → ℕ) (o : Option Row) → kind (option_map (with_paren
 kind_moved f None = refl
 kind_moved f (Some r) = refl
 
-moved_from : (f : ℕ → ℕ) (o : Option (ℕ × List ℕ)) (d : ℕ) (n : List ℕ) → moved f o ≡ Some (d, n) → (p : ℕ) × ((o ≡ Some (p, n)) × (f p ≡ d))
+pub moved_from : (f : ℕ → ℕ) (o : Option (ℕ × List ℕ)) (d : ℕ) (n : List ℕ) → moved f o ≡ Some (d, n) → (p : ℕ) × ((o ≡ Some (p, n)) × (f p ≡ d))
 moved_from f None d n e = absurd (cc)
 moved_from f (Some q) d n e =
     let parts = some_pair_parts (f q.0) d q.1 n e in

@@ -36,7 +36,7 @@ unmapped f (Some x) e = absurd (cc)
 none_below : (test : ℕ → Bool) (n : ℕ) (f : ℕ → ℕ) → block_of f (lowest test n) ≡ None → NoneBelow test n
 none_below test n f e = none_there test n (lowest test n) (lowest_is_lowest test n) (unmapped f (lowest test n) e)
 
-sound_table : (v : Volume) → first_failure None v ≡ None → IsSoundTable (table_of v)
+pub sound_table : (v : Volume) → first_failure None v ≡ None → IsSoundTable (table_of v)
 sound_table v none =
     let n = each_passes all_built None v none in
     let roots = and_parts (is_dir_at (table_of v) 0) (is_dir_at (table_of v) 1) (right _ _ n.roots) in

@@ -9,10 +9,9 @@ use Rattle.std.specs.FinMap.Entries.{below_all}
 use Rattle.std.proofs.lemmas.Bool.{cases_eq}
 use Rattle.std.proofs.lemmas.Cmp.{nat_list_cmp_total}
 use Rattle.std.proofs.lemmas.List.{length-map}
-use Rattle.std.proofs.lemmas.Option.{some_pair_parts}
 use Rattle.tree_model.specs.declared.rows.Row.{Row}
 use Rattle.tree_model.specs.declared.picturing.Item.{Item}
-use Rattle.tree_model.specs.Rows.{Rows, spot, place, place_of, kind, IsEntry, IsTree}
+use Rattle.tree_model.specs.Rows.{Rows, place, place_of, kind, IsEntry, IsTree}
 use Rattle.tree_model.specs.Entries.{Index, entries_of, entry, children}
 use Rattle.tree_model.specs.Picture.{item_kind, head, items}
 use Rattle.tree_model.proofs.MapView.{bytes_same}
@@ -21,7 +20,8 @@ use Rattle.tree_model.proofs.Found.{entry_stands, entry_is, vacant_none, none_va
 use Rattle.image_model.specs.Trees.{with_parent}
 use Rattle.image_model.specs.Carrying.{inode_in, IsRenamed}
 use Rattle.image_model.proofs.PreorderLists.{In}
-use Rattle.recovery.proofs.Levels.{in_child}
+use Rattle.image_model.proofs.Preorder.{in_child}
+use Rattle.image_model.proofs.SoundNumbers.{moved, spot_moved, moved_from}
 
 -- ---- entries with other serials
 
@@ -56,20 +56,7 @@ flat_renumbered : (f : ℕ → ℕ) (g h : ℕ → List Item) (es : List (List �
 flat_renumbered f g h [] same = refl
 flat_renumbered f g h (e ∷ es) same = ap₂ (λ a b. a ++ b) (same e (inl refl)) (flat_renumbered f g h es (λ d i. same d (inr i)))
 
--- ---- places with other serials
-
-abbrev moved : (ℕ → ℕ) → Option (ℕ × List ℕ) → Option (ℕ × List ℕ)
-moved f o = option_map (λ (p : ℕ × List ℕ). (f p.0, p.1)) o
-
-spot_moved : (f : ℕ → ℕ) (o : Option ℕ) (n : List ℕ) → spot (option_map f o) n ≡ moved f (spot o n)
-spot_moved f None n = refl
-spot_moved f (Some d) n = refl
-
-moved_from : (f : ℕ → ℕ) (o : Option (ℕ × List ℕ)) (d : ℕ) (n : List ℕ) → moved f o ≡ Some (d, n) → (p : ℕ) × ((o ≡ Some (p, n)) × (f p ≡ d))
-moved_from f None d n e = absurd (cc)
-moved_from f (Some q) d n e =
-    let parts = some_pair_parts (f q.0) d q.1 n e in
-    (q.0, (ap (λ (m : List ℕ). Some (q.0, m)) parts.1, parts.0))
+-- ---- rows with other serials
 
 -- a row that stands somewhere, or is something, is there
 row_placed : (o : Option Row) (p : ℕ × List ℕ) → place o ≡ Some p → (r : Row) × (o ≡ Some r)
@@ -139,4 +126,4 @@ module _ (t w : Rows) (tree : IsTree t) (other : IsTree w) (inodes : List ℕ) (
   same_items (suc l) depth x r is = ap₂ (λ a b. a ++ b) (same_head depth x r is)
       (ap (flat_map (λ (e : List ℕ × ℕ). items l w (depth + 1) e.1)) (same_children x r is)
       ∙ flat_renumbered f (items l w (depth + 1)) (items l t (depth + 1)) (children t x)
-      (λ e i. let c = row_placed (get t e.1) (x, e.0) (in_child t x e i) in same_items l (depth + 1) e.1 c.0 c.1))
+      (λ e i. let c = row_placed (get t e.1) (x, e.0) (in_child t tree x e i) in same_items l (depth + 1) e.1 c.0 c.1))

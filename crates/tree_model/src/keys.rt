@@ -82,8 +82,8 @@ impl Key {
 }
 
 /// The keys of an update, in their order, with none between them where a move replaces no file or no directory gets
-/// another parent.
-fn slots(update: &Update) -> [Option<Key>; 6]
+/// another parent. It takes no memory.
+pub fn key_slots(update: &Update) -> [Option<Key>; 6]
     ensures { filter_map (λ slot. slot) result ≡ keys_of update.now }
 {
     match update {
@@ -139,7 +139,7 @@ pub fn keys_of(alloc: Global, update: &Update) -> Result<Vec<Key>, NoMemory>
     ensures { IfOk result (λ keys. keys.items ≡ keys_of update.now) }
 {
     let mut keys = Vec::new(alloc);
-    for slot in &slots(update) {
+    for slot in &key_slots(update) {
         if let Some(key) = slot {
             keys.push(*key)?;
         }
@@ -189,15 +189,15 @@ fn any_changes_node(slots: &[Option<Key>], row: u32) -> bool
 pub fn changes_node(update: &Update, row: u32) -> bool
     ensures { result ≡ changes_node row update.now }
 {
-    any_changes_node(&slots(update), row)
+    any_changes_node(&key_slots(update), row)
 }
 
 /// Whether two updates meet: they share a key that at least one of them changes. It takes no memory.
 pub fn meets(a: &Update, b: &Update) -> bool
     ensures { result ≡ meets a.now b.now }
 {
-    let of_b = slots(b);
-    for slot in &slots(a) {
+    let of_b = key_slots(b);
+    for slot in &key_slots(a) {
         if let Some(key) = slot {
             if any_clashes(&of_b, key) {
                 return true;

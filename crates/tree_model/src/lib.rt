@@ -24,6 +24,6 @@ mod walking;
 
 pub use asking::blocks_of;
 pub use keeping::{ROOT, Tree};
-pub use keys::{Key, changes_node, keys_of, meets};
+pub use keys::{Key, changes_node, key_slots, keys_of, meets};
 pub use picturing::{Item, ItemKind, Picture};
 pub use rows::{Body, Entry, Row, Update};

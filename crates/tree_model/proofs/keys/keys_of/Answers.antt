@@ -5,7 +5,7 @@ use Rattle.tree_model.proofs.keys.keys_of.Goals.{in-Some+in_ok-push, in_default}
 
 pub loop-slot-preserved : goal.loop-slot-preserved
 loop-slot-preserved c =
-    let slots = c.slots.result in
+    let slots = c.key_slots.result in
     let i = c.loop-slot.slot-index in
     let within : i < length slots = omega (arith, c.type_inv.slot-items, c.loop-slot-test.true) in
     elim c.match-slot.branch [

@@ -1,0 +1,5 @@
+pub mod Books
+pub mod Held
+pub mod Kept
+pub mod Marked
+pub mod Order

@@ -1,0 +1,15 @@
+//! Which streams' unsealed updates an update meets, and which streams have changed a node and not sealed the change.
+//!
+//! The crate stands on `tree_model` and `ccfs_base`. It promises that the book tells just the streams that have such an update,
+//! whatever was added and sealed, and that the first call of the room takes no memory.
+#![tactic(auto)]
+
+mod book;
+mod calls;
+mod marks;
+mod places;
+
+pub use book::KeyBook;
+
+#[cfg(test)]
+mod tests;

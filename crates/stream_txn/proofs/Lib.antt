@@ -1,0 +1,6 @@
+mod Memory
+mod Room
+mod Sums
+mod Queue
+mod Holding
+mod Examples

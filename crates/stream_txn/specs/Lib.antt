@@ -1,0 +1,5 @@
+pub mod Updates
+pub mod Held
+pub mod Accounts
+pub mod Kept
+pub mod Space
