@@ -1,0 +1,4 @@
+pub mod Built
+pub mod Batches
+pub mod BatchLaws
+pub mod CutLaws
