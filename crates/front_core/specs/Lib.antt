@@ -2,3 +2,4 @@ pub mod Built
 pub mod Batches
 pub mod BatchLaws
 pub mod CutLaws
+pub mod Viewing
