@@ -23,7 +23,7 @@ same_tree t [] = refl
 same_tree t (e ∷ h) = same_tree (apply t e.1) h
 
 pub cuts_are_carried : CutsAreCarried
-cuts_are_carried sizes t calls k v files inodes tree run s named has =
+cuts_are_carried sizes t calls k v files inodes run s named has =
     let now : Rows = tree_at_cut sizes t calls k in
     let batch : List (ℕ × Update) = batch_after sizes t calls k in
     let us : List Update = batch_updates sizes t calls k in

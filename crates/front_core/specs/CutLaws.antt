@@ -1,7 +1,7 @@
 -- What the records of a batch carry from one cut of a history to the next.
 use Rattle.std.specs.Prelude.{ℕ, suc, List, map}
 use Rattle.tree_model.specs.declared.rows.Update.{Update}
-use Rattle.tree_model.specs.Rows.{Rows, IsTree}
+use Rattle.tree_model.specs.Rows.{Rows}
 use Rattle.tree_cuts.specs.Calls.{Sizes, Call}
 use Rattle.tree_cuts.specs.Runs.{IsRun, tree_at_cut, batch_after}
 use Rattle.image_model.specs.Volumes.{Volume}
@@ -17,7 +17,7 @@ batch_updates sizes t calls k = map (λ e. e.1) (batch_after sizes t calls k)
 -- put on it: the commits of a history go from cut to cut.
 abbrev pub CutsAreCarried : Type 0
 CutsAreCarried = (sizes : Sizes) (t : Rows) (calls : List Call) (k : ℕ) (v : Volume) (files : ℕ → List ℕ) (inodes : List ℕ)
-    → IsTree t → IsRun t calls → Stands v files (tree_at_cut sizes t calls k) inodes
+    → IsRun t calls → Stands v files (tree_at_cut sizes t calls k) inodes
     → AllNamed (batch_updates sizes t calls k)
     → AllHaveInodes v.inodes inodes (tree_at_cut sizes t calls k) (batch_updates sizes t calls k)
     → Stands (updated v inodes (tree_at_cut sizes t calls k) (batch_updates sizes t calls k))
