@@ -4,8 +4,8 @@
 //! The crate stands on `history_model`, whose definitions the answers are, on `image_model` for what a volume carries and which
 //! changes an update makes, on the codecs for their bytes, and on `tree_cuts` for the cuts of a history. It promises that each
 //! answer is exactly that of the definitions and its update applies, that the records of an update are those of its changes,
-//! whatever the tree is, and that the records of a batch take a volume that carries the tree of one cut to one that carries that
-//! of the next.
+//! whatever the tree is, and that the records of a batch take a volume whose metadata carries the tree of one cut to one whose
+//! metadata carries that of the next.
 #![tactic(auto)]
 
 mod answering;
