@@ -1,63 +1,62 @@
--- What a commit of the waiting rows leaves.
-use Rattle.std.proofs.Common.{◌≡◌, inl, inr, ⊎_elim, ℕ, ◌+◌, ◌≤◌, ◌<◌, ◌^◌, Bool, true, false, Option, Some, None, List, [], length, refl, sym, ◌∙◌, ap, subst, arith}
-use Rattle.std.specs.List.{All}
+-- What a commit of the next batch leaves, and what a session's volume shows.
+use Rattle.std.proofs.Common.{◌≡◌, inl, inr, ⊎_elim, [], ◌∷◌, ℕ, suc, ◌+◌, ◌-◌, ◌*◌, ◌%◌, ◌≤◌, ◌<◌, ◌^◌, Bool, true, false, Option, Some, None, List, length, min, refl, sym, ◌∙◌, ap, subst, arith}
+use Rattle.std.specs.List.{All, AllByRecursion}
 use Rattle.std.proofs.lemmas.Bool.{eq-eqb, eqb-true}
 use Rattle.std.proofs.lemmas.Bool.Decides.{nat_tests}
-use Rattle.std.proofs.lemmas.List.{nil_from_length}
-use Rattle.disk_model.specs.declared.disk.Disk.{Ghosts}
-use Rattle.disk_model.proofs.Runs.{elapses_start}
+use Rattle.std.proofs.lemmas.List.{length-take}
 use Rattle.block_layout.specs.declared.geometry.Geometry.{Geometry}
+use Rattle.block_layout.specs.Sizes.{data_start}
+use Rattle.ccfs_base.specs.declared.records.Rec.{Rec}
+use Rattle.ccfs_base.specs.declared.records.Rec.TheVariants as recs
+use Rattle.ccfs_base.specs.Records.{AreInside}
 use Rattle.gate_journal.specs.declared.batches.Batch.{Batch}
 use Rattle.gate_journal.specs.declared.batches.Range.{Range}
 use Rattle.gate_journal.specs.declared.halves.Half.{Half}
 use Rattle.gate_journal.specs.Batches.{batch_bytes, may_follow, Stands as StandsIn}
 use Rattle.gate_journal.specs.Journal.{Journal}
-use Rattle.gate_journal.specs.Halves.{fits, MayFollow, with_batch}
-use Rattle.gate_journal.specs.Runs.{LeavesBy}
+use Rattle.gate_journal.specs.Halves.{journal_of, fits, MayFollow, with_batch}
 use Rattle.atomic_volume.specs.Opening.{Contents, put_on}
-use Rattle.atomic_volume.specs.Held.{contents_by, Holds}
-use Rattle.atomic_volume.specs.Commits.{committed, AllOrNothing}
-use Rattle.image_model.specs.Volumes.{Volume, volume_of, number}
+use Rattle.atomic_volume.specs.Held.{contents_by}
+use Rattle.atomic_volume.specs.Commits.{committed}
+use Rattle.image_model.specs.Fields.{block_place}
+use Rattle.image_model.specs.Volumes as volumes
+use Rattle.image_model.specs.Volumes.{Volume, volume_of, metadata}
+use Rattle.image_model.specs.Reading.{IsWhole}
 use Rattle.image_model.specs.Checks.{is_last}
-use Rattle.pending_rows.specs.declared.pending.PendingRows.{PendingRows}
-use Rattle.pending_rows.specs.Waiting.{with_ranges, Carried, batch_size, Waits}
-use Rattle.recovery.specs.Recovering.{volume_in, picture_shown}
-use Rattle.tree_model.specs.declared.picturing.Item.{Item}
+use Rattle.image_model.specs.Changes.{with_records}
+use Rattle.image_model.specs.ChangeLaws.{AreBesideSame}
+use Rattle.tree_model.specs.declared.rows.Entry.{Entry}
 use Rattle.tree_model.specs.Rows.{Rows}
 use Rattle.tree_model.specs.Picture.{picture}
-use Rattle.ccfs_top.specs.Runs.{further}
-use Rattle.ccfs_top.specs.Stages.{Room, room_in, may_commit, with_rows}
-use Rattle.ccfs_top.specs.Sessions.{EitherShown}
-use Rattle.pending_rows.proofs.Standing.{carried_volumes_stand}
+use Rattle.history_model.specs.Histories.{start, tree_at}
+use Rattle.carried_volumes.specs.Carried.{Carried}
+use Rattle.batch_ranges.specs.Ranges.{ranges_by, metadata_after, AreSome}
+use Rattle.batch_ranges.specs.Laws.{with_ranges, numbered}
+use Rattle.front_laws.specs.Batches.{batch_at}
+use Rattle.front_laws.specs.Kept.{IsKept}
+use Rattle.front_laws.specs.Logging.{metadata_size}
+use Rattle.front_laws.specs.Laws.{record_size}
+use Rattle.front_laws.proofs.BatchActs.{batches_act}
+use Rattle.tree_cuts.specs.Calls.{Sizes}
+use Rattle.front_core.specs.Fronts.{Fronted, seals_of}
+use Rattle.recovery.specs.Recovering.{volume_in, picture_shown}
 use Rattle.recovery.proofs.Carried.{carried_trees_are_shown}
-use Rattle.ccfs_top.proofs.Viewing.{shows_to}
+use Rattle.ccfs_top.specs.Runs.{further}
+use Rattle.ccfs_top.specs.Stages.{Room, room_in, has_room, used_by}
+use Rattle.ccfs_top.specs.Sessions.{Settled, Shows, cut_tree}
+use Rattle.carried_volumes.proofs.Standing.{carried_volumes_stand}
+use Rattle.front_laws.proofs.CarryOn.{batches_carry_on}
+use Rattle.batch_ranges.proofs.Putting.{ranges_put_records}
+use Rattle.batch_ranges.proofs.Numbering.{numbers_are_beside}
 
--- ---- the volume with its batch
+-- ---- numbers
 
--- where nothing waits, the volume itself carries the tree
-pub nothing_waits : (v : Volume) (p : PendingRows) (t : Rows) → Waits v p t 0 → Carried v t p.inodes
-nothing_waits v p t waits =
-    let count = waits.count in
-    let none : p.ranges ≡ [] = nil_from_length p.ranges (omega (arith, count)) in
-    subst (λ (z : List Range). Carried (with_ranges v z) t p.inodes) none waits.carried
+-- the number behind that of so many batches
+pub next_number : (first k : ℕ) → ((first + k) % 2 ^ 64 + 1) % 2 ^ 64 ≡ further first (k + 1)
+next_number first k = omega arith
 
--- nothing waits over the volume that a commit left
-pub waits_on : (g g' : Geometry) (bytes bytes' : List ℕ) (ranges : List Range) (p : PendingRows) (t : Rows) → g' ≡ g → bytes' ≡ put_on bytes ranges
-    → Waits (with_ranges (volume_of g bytes) ranges) p t 0 → Waits (volume_of g' bytes') p t 0
-waits_on g g' bytes bytes' ranges p t same is waits =
-    subst (λ (z : Geometry). Waits (volume_of z bytes') p t 0) (sym same) (subst (λ (z : List ℕ). Waits (volume_of g z) p t 0) (sym is) waits)
-
--- it shows the picture of the tree, with the number of the batch
-pub committed_shows : (contents : Contents) (b : Batch) (k : ℕ) (p : PendingRows) (t : Rows) → b.number ≡ k → number (with_ranges (volume_in contents) b.ranges) ≡ k
-    → Waits (with_ranges (volume_in contents) b.ranges) p t 0 → picture_shown (committed contents b) ≡ Some (k, picture t)
-committed_shows contents b k p t batch numbered waits =
-    let v = with_ranges (volume_in contents) b.ranges in
-    let carried = nothing_waits v p t waits in
-    let stands = carried_volumes_stand v t p.inodes carried in
-    carried_trees_are_shown (committed contents b) t p.inodes stands.0 stands.1 carried.made.tree (eq-eqb b.number (number v) (batch ∙ sym numbered))
-    ∙ ap (λ (z : ℕ). Some (z, picture t)) numbered
-
--- ---- room
+pub further_small : (first k : ℕ) → further first k < 2 ^ 64
+further_small first k = omega arith
 
 -- the number behind the last may follow it
 may_be_next : (last : Option ℕ) (k n : ℕ) → k < 2 ^ 64 → is_last last k ≡ true → n ≡ further k 1 → may_follow last n ≡ true
@@ -67,51 +66,133 @@ may_be_next (Some l) k n small is next = follows l n (next ∙ ap (λ (z : ℕ).
     follows : (l n : ℕ) → n ≡ further l 1 → l < 2 ^ 64 → may_follow (Some l) n ≡ true
     follows l n next small = grind (arith, nat_tests)
 
--- so may the batch of what waits
-pub may_follow_on : (size : ℕ) (j : Journal) (b : Batch) (k : ℕ) (bytes : List ℕ) → size ≡ length bytes → k < 2 ^ 64 → is_last j.last k ≡ true → b.number ≡ further k 1 → All (StandsIn (length bytes)) b.ranges → MayFollow size j b
-may_follow_on size j b k bytes long small is next stand = record {
-  ranges = subst (λ (z : ℕ). All (StandsIn z) b.ranges) (sym long) stand;
-  number = may_be_next j.last k b.number small is next;
+-- so may the next batch
+pub may_follow_on : (size : ℕ) (j : Journal) (b : Batch) (first k : ℕ) → is_last j.last (further first k) ≡ true → b.number ≡ further first (k + 1) → All (StandsIn size) b.ranges → MayFollow size j b
+may_follow_on size j b first k is next stand = record {
+  ranges = stand;
+  number = may_be_next j.last (further first k) b.number (further_small first k) is (next ∙ omega arith);
 }
 
--- a batch of so many rows that isn't accepted has no room
-pub no_room : (size : ℕ) (j : Journal) (b : Batch) (rows : ℕ) (accepted : Bool) → (fits j (length (batch_bytes b)) ≡ true → MayFollow size j b → accepted ≡ true) → MayFollow size j b → length (batch_bytes b) ≡ batch_size rows
-    → accepted ≡ false → may_commit (room_in j) rows ≡ false
-no_room size j b rows accepted exact follows long not =
+-- ---- room
+
+-- a batch of so many bytes that isn't accepted has no room
+pub no_room : (size : ℕ) (j : Journal) (b : Batch) (bytes : ℕ) (accepted : Bool) → (fits j (length (batch_bytes b)) ≡ true → MayFollow size j b → accepted ≡ true) → MayFollow size j b
+    → length (batch_bytes b) ≡ bytes → accepted ≡ false → has_room (room_in j) bytes ≡ false
+no_room size j b bytes accepted exact follows long not =
     subst (λ (z : ℕ). fits j z ≡ false) long (either (fits j (length (batch_bytes b))) refl)
   where
     either : (fit : Bool) → fits j (length (batch_bytes b)) ≡ fit → fits j (length (batch_bytes b)) ≡ false
     either true is = absurd (cc (exact is follows, not))
     either false is = is
 
-abbrev with_bytes : Room → ℕ → Room
-with_bytes room bytes = record { gates = room.gates + 1; bytes = room.bytes + bytes; barred = room.barred }
+pub room_left : (j j' : Journal) (b : Batch) (bytes : ℕ) → j' ≡ with_batch j b → length (batch_bytes b) ≡ bytes → room_in j' ≡ used_by (room_in j) bytes
+room_left j j' b bytes is long = ap room_in is ∙ ap (used_by (room_in j)) long
 
-pub room_left : (j j' : Journal) (b : Batch) (rows : ℕ) → j' ≡ with_batch j b → length (batch_bytes b) ≡ batch_size rows → room_in j' ≡ with_rows (room_in j) rows
-room_left j j' b rows is long = ap room_in is ∙ ap (with_bytes (room_in j)) long
+-- ---- the metadata
 
--- ---- what a crash leaves on the way, where the volume showed an old picture and each image at the start was the volume's
+-- the metadata has its size
+pub metadata_long : (g : Geometry) (bytes : List ℕ) → IsWhole g bytes → length (metadata (volume_of g bytes)) ≡ metadata_size g.inodes
+metadata_long g bytes whole =
+    let cut = length-take (block_place (data_start g.inodes)) bytes in
+    let first = g.first_data_place in
+    let end = g.data_to_the_end in
+    cut ∙ omega (arith, whole, first, end)
 
-module _ {X : Type 0} (d : Ghosts X) (g : Geometry) (h : Half) (bytes : List ℕ) (old : ℕ × List Item) (shows : picture_shown (contents_by g h bytes) ≡ Some old) (x : X) (sound : (c : List ℕ) → d.may_leave x c → Holds g h bytes c) where
-  -- where nothing is done, the old picture
-  pub stays_shown : (b : Bool) (new : ℕ × List Item) → ((s t : ℕ) (c : List ℕ) → s ≤ t → d.left_since x t c → d.left_since x s c) → ((c : List ℕ) → d.left_since x (d.moment x) c → d.may_leave x c)
-      → LeavesBy d x x (EitherShown b old new)
-  stays_shown b new earlier only_now = record {
-    time = elapses_start d.moment d.left_since x earlier;
-    each = λ c left. inl (shows_to c (contents_by g h bytes) old (sound c (only_now c left)).opens shows);
-  }
+-- ---- what a volume shows
 
-  -- and so where the disk is the same as before
-  pub same_shown : (y : X) → y ≡ x → (b : Bool) (new : ℕ × List Item) → ((s t : ℕ) (c : List ℕ) → s ≤ t → d.left_since x t c → d.left_since x s c) → ((c : List ℕ) → d.left_since x (d.moment x) c → d.may_leave x c)
-      → LeavesBy d x y (EitherShown b old new)
-  same_shown y same b new earlier only_now = subst (λ (z : X). LeavesBy d x z (EitherShown b old new)) (sym same) (stays_shown b new earlier only_now)
+-- contents that carry the tree of a cut show it
+pub contents_show : (contents : Contents) (t : Rows) (inodes : List ℕ) (n : ℕ) → Carried (volume_in contents) t inodes → volumes.number (volume_in contents) ≡ n → is_last contents.last n ≡ true
+    → picture_shown contents ≡ Some (n, picture t)
+contents_show contents t inodes n carried number last =
+    let stands = carried_volumes_stand (volume_in contents) t inodes carried in
+    carried_trees_are_shown contents t inodes stands.0 stands.1 carried.plain.tree (ap (is_last contents.last) number ∙ last)
+    ∙ ap (λ (z : ℕ). Some (z, picture t)) number
 
-  -- where a commit is done, or a part of it, the old picture or the new one
-  pub commit_shown : (y : X) (b : Batch) (new : ℕ × List Item) → picture_shown (committed (contents_by g h bytes) b) ≡ Some new → LeavesBy d x y (AllOrNothing (contents_by g h bytes) b (d.may_leave x)) → LeavesBy d x y (EitherShown true old new)
-  commit_shown y b new then way = record {
-    time = way.time;
-    each = λ c left. ⊎_elim
-        (λ was. inl (shows_to c (contents_by g h bytes) old (was.2 ∙ (sound was.0 was.1).opens) shows))
-        (λ is. inr (refl, shows_to c (committed (contents_by g h bytes) b) new is then))
-        (way.each c left);
-  }
+pub settled_shows : (g : Geometry) (half : Half) (bytes at_hand : List ℕ) (front : Fronted) (first k : ℕ) → Settled g bytes at_hand front first k → is_last (journal_of half).last (further first k) ≡ true
+    → Shows g half bytes (further first k) (picture (cut_tree front k))
+settled_shows g half bytes at_hand front first k settled last =
+    contents_show (contents_by g half bytes) (cut_tree front k) front.inodes (further first k) settled.carried settled.number last
+
+-- ---- the next batch
+
+-- the records of the batch behind so many seals
+abbrev pub recs_at : Fronted → ℕ → List Rec
+recs_at front k = (batch_at front.sizes front.opening front.inodes front.entries k).recs
+
+module _ (g : Geometry) (bytes at_hand : List ℕ) (front : Fronted) (first k : ℕ) (settled : Settled g bytes at_hand front first k)
+    (kept : IsKept front.sizes front.opening front.inodes front.entries) (more : k < seals_of front) where
+  same_inodes : g.inodes ≡ front.sizes.inodes
+  same_inodes = ap (λ z. z.inodes) (sym settled.sizes)
+
+  whole : IsWhole g bytes
+  whole = settled.carried.sized.long
+
+  carried_on : Carried (with_records (volume_of g bytes) (recs_at front k)) (cut_tree front (suc k)) front.inodes
+      × AreBesideSame (volume_of g bytes) (with_records (volume_of g bytes) (recs_at front k))
+      × AreInside (metadata_size front.sizes.inodes) (recs_at front k)
+  carried_on = batches_carry_on front.sizes front.opening front.inodes front.entries k (volume_of g bytes) kept more same_inodes settled.carried
+
+  long : length (metadata (volume_of g bytes)) ≡ metadata_size front.sizes.inodes
+  long = metadata_long g bytes whole ∙ ap metadata_size same_inodes
+
+  inside : AreInside (length (metadata (volume_of g bytes))) (recs_at front k)
+  inside = subst (λ (z : ℕ). AreInside z (recs_at front k)) (sym long) carried_on.2
+
+  -- its records lie in the metadata at hand
+  pub recs_inside : AreInside (length at_hand) (recs_at front k)
+  recs_inside = subst (λ (z : List ℕ). AreInside (length z) (recs_at front k)) (sym settled.copied) inside
+
+  pub hand_enough : length at_hand ≤ length bytes
+  hand_enough = let cut = length-take (block_place (data_start g.inodes)) bytes in let same = ap length settled.copied in omega (arith, cut, same)
+
+  pub hand_some : 8 ≤ length at_hand
+  hand_some =
+      let size = ap length settled.copied ∙ metadata_long g bytes whole in
+      let least = g.least_inodes in
+      omega (arith, size, least)
+
+  pub put_is : (with_ranges (volume_of g bytes) (ranges_by (metadata (volume_of g bytes)) (recs_at front k) (further first (k + 1))) ≡ numbered (further first (k + 1)) (with_records (volume_of g bytes) (recs_at front k)))
+      × (metadata (numbered (further first (k + 1)) (with_records (volume_of g bytes) (recs_at front k))) ≡ metadata_after (metadata (volume_of g bytes)) (recs_at front k) (further first (k + 1)))
+  put_is = ranges_put_records (volume_of g bytes) (recs_at front k) (further first (k + 1)) settled.carried.sized inside
+
+  numbered_on : Carried (numbered (further first (k + 1)) (with_records (volume_of g bytes) (recs_at front k))) (cut_tree front (suc k)) front.inodes
+      × (volumes.number (numbered (further first (k + 1)) (with_records (volume_of g bytes) (recs_at front k))) ≡ further first (k + 1))
+  numbered_on = numbers_are_beside (with_records (volume_of g bytes) (recs_at front k)) (cut_tree front (suc k)) front.inodes (further first (k + 1)) (further_small first (k + 1)) carried_on.0
+
+  module _ (ranges : List Range) (hand : List ℕ) (is : ranges ≡ ranges_by at_hand (recs_at front k) (further first (k + 1))) (hand_is : hand ≡ metadata_after at_hand (recs_at front k) (further first (k + 1))) where
+    volume_is : with_ranges (volume_of g bytes) ranges ≡ numbered (further first (k + 1)) (with_records (volume_of g bytes) (recs_at front k))
+    volume_is = ap (with_ranges (volume_of g bytes)) (is ∙ ap (λ (z : List ℕ). ranges_by z (recs_at front k) (further first (k + 1))) settled.copied) ∙ put_is.0
+
+    -- it carries the tree of the next cut
+    pub settled_on : Settled g (put_on bytes ranges) hand front first (k + 1)
+    settled_on =
+        let one : suc k ≡ k + 1 = omega arith in
+        let there : Carried (with_ranges (volume_of g bytes) ranges) (cut_tree front (suc k)) front.inodes = subst (λ (z : Volume). Carried z (cut_tree front (suc k)) front.inodes) (sym volume_is) numbered_on.0 in
+        record {
+          sizes = settled.sizes;
+          carried = subst (λ (z : ℕ). Carried (volume_of g (put_on bytes ranges)) (cut_tree front z) front.inodes) one there;
+          copied = hand_is ∙ ap (λ (z : List ℕ). metadata_after z (recs_at front k) (further first (k + 1))) settled.copied ∙ sym put_is.1 ∙ ap metadata (sym volume_is);
+          number = ap volumes.number volume_is ∙ numbered_on.1;
+          few = omega (arith, more);
+        }
+
+-- the same of a volume with these bytes
+pub settled_at : (g g' : Geometry) (bytes bytes' at_hand : List ℕ) (front front' : Fronted) (first first' k k' : ℕ) → g' ≡ g → bytes' ≡ bytes → front' ≡ front → first' ≡ first → k' ≡ k
+    → Settled g bytes at_hand front first k → Settled g' bytes' at_hand front' first' k'
+settled_at g g' bytes bytes' at_hand front front' first first' k k' sizes put same opening written settled =
+    subst (λ (z : Geometry). Settled z bytes' at_hand front' first' k') (sym sizes)
+    (subst (λ (z : List ℕ). Settled g z at_hand front' first' k') (sym put)
+    (subst (λ (z : Fronted). Settled g bytes at_hand z first' k') (sym same)
+    (subst (λ (z : ℕ). Settled g bytes at_hand front z k') (sym opening)
+    (subst (λ (z : ℕ). Settled g bytes at_hand front first z) (sym written) settled))))
+
+-- ---- the records act somewhere
+
+some_of : (log : List Rec) → AllByRecursion (λ rec. 13 ≤ record_size rec) log → AreSome log
+some_of [] p = tt
+some_of (recs.Range off bytes ∷ log) p = let long = p.0 in (omega (arith, long), some_of log p.1)
+some_of (recs.Add off by ∷ log) p = (omega arith, some_of log p.1)
+some_of (recs.Bit off bit on ∷ log) p = (omega arith, some_of log p.1)
+
+pub recs_some : (sizes : Sizes) (t : Rows) (inodes : List ℕ) (h : List Entry) (k : ℕ) → IsKept sizes t inodes h → AreSome (batch_at sizes t inodes h k).recs
+recs_some sizes t inodes h k kept = some_of (batch_at sizes t inodes h k).recs (batches_act sizes t inodes h k kept)

@@ -11,100 +11,33 @@ use Rattle.tree_model.specs.Rows.{Rows}
 use Rattle.tree_model.specs.Picture.{picture}
 use Rattle.tree_cuts.specs.Calls.{Sizes}
 use Rattle.history_model.specs.State.{Now}
-use Rattle.history_model.specs.Histories.{start, entered_by, entry_of, hist, tree_at, durable}
+use Rattle.history_model.specs.Histories.{start, entered_by, entry_of, hist, now_after}
 use Rattle.script_text.specs.declared.scripts.Call.{Call}
 use Rattle.script_text.specs.Texts.{not_built_line}
 use Rattle.ccfs_top.specs.declared.stop.Stop.{Stop}
 use Rattle.ccfs_top.specs.declared.stop.Stop.TheVariants.{Usage, Long, NotBuilt, Source, Sink, Disk, NoMemory}
-use Rattle.pending_rows.specs.Made.{IsMade}
 use Rattle.ccfs_top.specs.Images.{Image}
-use Rattle.ccfs_top.specs.Stages.{Room}
+use Rattle.ccfs_top.specs.Stages.{Room, called}
 use Rattle.ccfs_top.specs.Runs.{Expected, asked, history, made, line_of, reply_lines, further, final_history, replies, stopped_over, ran_until, ran}
 use Rattle.ccfs_top.specs.Ends.{joined, first_or, IsPart}
 use Rattle.ccfs_top.specs.Stops.{Comes, Decides, SomeLines, Grew, IsFaultStop}
-use Rattle.ccfs_top.specs.Sessions.{Stands}
-use Rattle.ccfs_top.specs.Reached.{history_to, now_at, Reached}
-use Rattle.ccfs_top.proofs.MadeTrees.{next_serial}
-use Rattle.ccfs_top.proofs.Steps.{quiet_tree, sealed_tree, history_on, lines_more, lines_first, reached_start}
+use Rattle.ccfs_top.specs.Reached.{history_to, Reached}
+use Rattle.ccfs_top.proofs.Steps.{lines_more, lines_first}
 
--- a session that was just opened
-pub stands_start : (t : Rows) (s w : ℕ) → s ≡ 0 → w ≡ 0 → IsMade t → Stands (start t) t s w
-stands_start t s w seals unsealed made = record {
-  tree = refl;
-  seals = seals;
-  choices = refl;
-  unsealed = unsealed;
-  few = omega arith;
-  of_makes = tt;
-  next = next_serial t made;
-  made = made;
-}
-
-pub reached_first : (k : Sizes) (room : Room) (t : Rows) (calls : List Call) (s w : ℕ) → s ≡ 0 → w ≡ 0 → IsMade t → Reached k room (start t) calls 0 t s w room
-reached_first k room t calls s w seals unsealed made =
-    subst (λ (z : ℕ). Reached k room (start t) calls 0 t z w room) (sym seals) (reached_start k room (start t) calls t w (stands_start t 0 w refl unsealed made))
-
--- ---- the number and what the volume shows
+-- ---- the number
 
 pub further_none : (k : ℕ) → k < 2 ^ 64 → k ≡ further k 0
 further_none k small = omega arith
 
-pub further_one : (k s : ℕ) → further (further k s) 1 ≡ further k (s + 1)
-further_one k s = omega arith
-
-pub number_on : (first number number' s s' : ℕ) → number ≡ further first s → (s' ≡ s → number' ≡ number) → (s' ≢ s → (number' ≡ further number 1) × (s' ≡ s + 1)) → number' ≡ further first s'
-number_on first number number' s s' so_far quiet sealed = elim (cases_eq s' s) [
-  | inl same ↦ quiet same ∙ so_far ∙ ap (further first) (sym same)
-  | inr apart ↦ let n = sealed apart in n.0 ∙ ap (λ (z : ℕ). further z 1) so_far ∙ further_one first s ∙ ap (further first) (sym n.1)
-]
-
--- what a volume shows after one call more, where it showed the tree that is durable
-pub shows_on : (k : Sizes) (n0 : Now) (calls : List Call) (i : ℕ) (c : Call) (tree tree' : Rows) (s w s' w' number number' : ℕ) (seen seen' : Option (ℕ × List Item))
-    → n0.unsealed ≡ [] → n0.seals ≡ 0 → i < length calls → c ≡ get_or calls i c → Stands (now_at k n0 calls i) tree s w
-    → Stands (entered_by k (now_at k n0 calls i) (entry_of k (now_at k n0 calls i) c.actor c.command)) tree' s' w'
-    → seen ≡ Some (number, picture (tree_at k n0 (history_to k n0 calls i) s))
-    → (s' ≡ s → (number' ≡ number) × (seen' ≡ seen))
-    → (s' ≢ s → (seen' ≡ Some (number', picture tree')) × (w' ≡ 0))
-    → seen' ≡ Some (number', picture (tree_at k n0 (history_to k n0 calls (i + 1)) s'))
-shows_on k n0 calls i c tree tree' s w s' w' number number' seen seen' none fresh lt is before after shows quiet sealed =
-    let n = now_at k n0 calls i in
-    let e = entry_of k n c.actor c.command in
-    let h = history_to k n0 calls i in
-    let more : history_to k n0 calls (i + 1) ≡ h ++ e ∷ [] = history_on k n0 calls i c lt is in
-    elim (cases_eq s' s) [
-      | inl same ↦
-          let q = quiet same in
-          let kept : tree_at k n0 (h ++ e ∷ []) (entered_by k n e).seals ≡ tree_at k n0 h n.seals = quiet_tree k n0 h e fresh (sym after.seals ∙ same ∙ before.seals) in
-          let trees : tree_at k n0 (history_to k n0 calls (i + 1)) s' ≡ tree_at k n0 h s =
-          ap (λ (z : List Entry). tree_at k n0 z s') more ∙ ap (tree_at k n0 (h ++ e ∷ [])) after.seals ∙ kept ∙ ap (tree_at k n0 h) (sym before.seals) in
-          q.1 ∙ shows ∙ ap (λ (z : ℕ). Some (z, picture (tree_at k n0 h s))) (sym q.0) ∙ ap (λ (z : Rows). Some (number', picture z)) (sym trees)
-      | inr apart ↦
-          let now = sealed apart in
-          let empty : (entered_by k n e).unsealed ≡ [] = nil_from_length (entered_by k n e).unsealed (sym after.unsealed ∙ now.1) in
-          let trees : tree_at k n0 (history_to k n0 calls (i + 1)) s' ≡ tree' =
-          ap (λ (z : List Entry). tree_at k n0 z s') more ∙ ap (tree_at k n0 (h ++ e ∷ [])) after.seals ∙ sealed_tree k n0 h e none fresh empty ∙ sym after.tree in
-          now.0 ∙ ap (λ (z : Rows). Some (number', picture z)) (sym trees)
-    ]
-
--- what it shows in the end, where these are all calls that are made
-pub shows_all : (k : Sizes) (n0 : Now) (calls cs : List Call) (i s first number : ℕ) (seen : Option (ℕ × List Item)) → cs ≡ take i calls → number ≡ further first s → durable (history_to k n0 calls i) ≡ s
-    → seen ≡ Some (number, picture (tree_at k n0 (history_to k n0 calls i) s)) → seen ≡ Some (further first (durable (history k n0 cs)), picture (tree_at k n0 (history k n0 cs) (durable (history k n0 cs))))
-shows_all k n0 calls cs i s first number seen all counts acknowledged shows =
-    let h = history_to k n0 calls i in
-    shows ∙ ap (λ (z : ℕ). Some (z, picture (tree_at k n0 h s))) counts
-    ∙ ap (λ (z : ℕ). Some (further first z, picture (tree_at k n0 h z))) (sym acknowledged)
-    ∙ ap (λ (z : List Call). Some (further first (durable (history k n0 z)), picture (tree_at k n0 (history k n0 z) (durable (history k n0 z))))) (sym all)
-
 -- ---- what was written
 
-pub text_on : (k : Sizes) (n0 : Now) (calls : List Call) (i : ℕ) (c : Call) (text0 text text1 : List ℕ) → i < length calls → c ≡ get_or calls i c
-    → text ≡ text0 ++ joined (reply_lines (history_to k n0 calls i)) → text1 ≡ text ++ line_of (entry_of k (now_at k n0 calls i) c.actor c.command)
-    → text1 ≡ text0 ++ joined (reply_lines (history_to k n0 calls (i + 1)))
-text_on k n0 calls i c text0 text text1 lt is so_far more =
-    let h = history_to k n0 calls i in
-    let e = entry_of k (now_at k n0 calls i) c.actor c.command in
+pub text_on : (k : Sizes) (t : Rows) (calls : List Call) (i : ℕ) (c : Call) (h : List Entry) (text0 text text1 : List ℕ)
+    → text ≡ text0 ++ joined (reply_lines h) → text1 ≡ text ++ line_of (entry_of k (now_after k (start t) h) c.actor c.command)
+    → text1 ≡ text0 ++ joined (reply_lines (called k t h c.actor c.command))
+text_on k t calls i c h text0 text text1 so_far more =
+    let e = entry_of k (now_after k (start t) h) c.actor c.command in
     more ∙ ap (λ (z : List ℕ). z ++ line_of e) so_far ∙ append_assoc text0 (joined (reply_lines h)) (line_of e)
-    ∙ ap (λ (z : List ℕ). text0 ++ z) (sym (lines_more h e)) ∙ ap (λ (z : List Entry). text0 ++ joined (reply_lines z)) (sym (history_on k n0 calls i c lt is))
+    ∙ ap (λ (z : List ℕ). text0 ++ z) (sym (lines_more h e))
 
 -- each call has its entry
 length_hist : (k : Sizes) (n : Now) (cs : List (ℕ × Command)) → length (hist k n cs) ≡ length cs
@@ -117,35 +50,34 @@ length_lines k n cs =
     length-map (history k n cs) line_of ∙ length_hist k n (asked cs) ∙ length-map cs (λ (z : Call). (z.actor, z.command))
 
 -- so many lines as calls
-pub lines_to : (k : Sizes) (n0 : Now) (calls : List Call) (i : ℕ) → i ≤ length calls → length (reply_lines (history_to k n0 calls i)) ≡ i
-lines_to k n0 calls i le = length_lines k n0 (take i calls) ∙ length-take-le i calls le
+pub lines_to : (k : Sizes) (t : Rows) (calls : List Call) (i : ℕ) → i ≤ length calls → length (reply_lines (history_to k (start t) calls i)) ≡ i
+lines_to k t calls i le = length_lines k (start t) (take i calls) ∙ length-take-le i calls le
 
 -- the reply lines so far are the first of all
-pub first_lines : (k : Sizes) (room0 : Room) (n0 : Now) (calls : List Call) (i : ℕ) (tree : Rows) (s w : ℕ) (room : Room) → i ≤ length calls → Reached k room0 n0 calls i tree s w room
-    → (i ≤ length (reply_lines (history k n0 (made k room0 n0 calls)))) × (take i (reply_lines (history k n0 (made k room0 n0 calls))) ≡ reply_lines (history_to k n0 calls i))
-first_lines k room0 n0 calls i tree s w room le r =
-    let a = reply_lines (history_to k n0 calls i) in
-    let f = lines_first k room0 n0 calls i tree s w room r in
+pub first_lines : (k : Sizes) (room : Room) (t : Rows) (calls : List Call) (i : ℕ) (h : List Entry) (d : ℕ) → i ≤ length calls → Reached k room t calls i h d
+    → (i ≤ length (reply_lines (history k (start t) (made k room t [] calls)))) × (take i (reply_lines (history k (start t) (made k room t [] calls))) ≡ reply_lines h)
+first_lines k room t calls i h d le r =
+    let a = reply_lines (history_to k (start t) calls i) in
+    let f = lines_first k room t calls i h d r in
     let long = ap (λ (z : List (List ℕ)). length z) f.1 in
     let both = length-append a f.0 in
-    let count = lines_to k n0 calls i le in (
+    let count = lines_to k t calls i le in (
       omega (arith, long, both, count),
-      ap (take i) f.1 ∙ take_at a f.0 i count,
+      ap (take i) f.1 ∙ take_at a f.0 i count ∙ ap reply_lines (sym r.entries),
     )
 
 -- and the next one is behind them
-pub line_next : (k : Sizes) (room0 : Room) (n0 : Now) (calls : List Call) (i : ℕ) (c : Call) (tree : Rows) (s w : ℕ) (room : Room) (last : List ℕ) → i < length calls → c ≡ get_or calls i c
-    → Reached k room0 n0 calls (i + 1) tree s w room
-    → first_or last (drop i (reply_lines (history k n0 (made k room0 n0 calls)))) ≡ line_of (entry_of k (now_at k n0 calls i) c.actor c.command)
-line_next k room0 n0 calls i c tree s w room last lt is r =
-    let h = history_to k n0 calls i in
-    let e = entry_of k (now_at k n0 calls i) c.actor c.command in
-    let f = lines_first k room0 n0 calls (i + 1) tree s w room r in
-    let split : reply_lines (history_to k n0 calls (i + 1)) ≡ reply_lines h ++ line_of e ∷ [] = ap reply_lines (history_on k n0 calls i c lt is) ∙ map-append line_of h (e ∷ []) in
-    let all : reply_lines (history k n0 (made k room0 n0 calls)) ≡ reply_lines h ++ (line_of e ∷ f.0) =
+pub line_next : (k : Sizes) (room : Room) (t : Rows) (calls : List Call) (i : ℕ) (c : Call) (h : List Entry) (d : ℕ) (last : List ℕ) → i < length calls
+    → h ≡ history_to k (start t) calls i → Reached k room t calls (i + 1) (called k t h c.actor c.command) d
+    → first_or last (drop i (reply_lines (history k (start t) (made k room t [] calls)))) ≡ line_of (entry_of k (now_after k (start t) h) c.actor c.command)
+line_next k room t calls i c h d last lt here r =
+    let e = entry_of k (now_after k (start t) h) c.actor c.command in
+    let f = lines_first k room t calls (i + 1) (called k t h c.actor c.command) d r in
+    let split : reply_lines (history_to k (start t) calls (i + 1)) ≡ reply_lines h ++ line_of e ∷ [] = ap reply_lines (sym r.entries) ∙ map-append line_of h (e ∷ []) in
+    let all : reply_lines (history k (start t) (made k room t [] calls)) ≡ reply_lines h ++ (line_of e ∷ f.0) =
     f.1 ∙ ap (λ (z : List (List ℕ)). z ++ f.0) split ∙ append_assoc (reply_lines h) (line_of e ∷ []) f.0 in
     ap (λ (z : List (List ℕ)). first_or last (drop i z)) all
-    ∙ ap (first_or last) (drop_at (reply_lines h) (line_of e ∷ f.0) i (lines_to k n0 calls i (omega arith)))
+    ∙ ap (first_or last) (drop_at (reply_lines h) (line_of e ∷ f.0) i (ap (λ (z : List Entry). length (reply_lines z)) here ∙ lines_to k t calls i (omega arith)))
 
 -- a part of a line
 pub part_of_line : (old new line text : List ℕ) → ((k : ℕ) × (k < length text) × (new ≡ old ++ take k text)) → text ≡ line → (said : List ℕ) × (new ≡ old ++ said) × IsPart said line
@@ -235,8 +167,8 @@ write_grew e stop all lines i line text0 text text1 (inr is) are first next so_f
     subst (λ (z : Stop). Grew e z i text0 text1) (sym is) (some_grew e all lines i text0 text1 are first (none is ∙ so_far))
 
 -- where the calls that are made are those so far, so are the lines
-pub all_lines : (k : Sizes) (room0 : Room) (n0 : Now) (calls : List Call) (i : ℕ) → i ≤ length calls → made k room0 n0 calls ≡ take i calls
-    → (i ≡ length (reply_lines (history k n0 (made k room0 n0 calls)))) × (reply_lines (history k n0 (made k room0 n0 calls)) ≡ reply_lines (history_to k n0 calls i))
-all_lines k room0 n0 calls i le all =
-    let same : reply_lines (history k n0 (made k room0 n0 calls)) ≡ reply_lines (history_to k n0 calls i) = ap (λ (z : List Call). reply_lines (history k n0 z)) all in
-    (sym (ap (λ (z : List (List ℕ)). length z) same ∙ lines_to k n0 calls i le), same)
+pub all_lines : (k : Sizes) (room : Room) (t : Rows) (calls : List Call) (i : ℕ) (h : List Entry) → i ≤ length calls → h ≡ history_to k (start t) calls i → made k room t [] calls ≡ take i calls
+    → (i ≡ length (reply_lines (history k (start t) (made k room t [] calls)))) × (reply_lines (history k (start t) (made k room t [] calls)) ≡ reply_lines h)
+all_lines k room t calls i h le here all =
+    let same : reply_lines (history k (start t) (made k room t [] calls)) ≡ reply_lines (history_to k (start t) calls i) = ap (λ (z : List Call). reply_lines (history k (start t) z)) all in
+    (sym (ap (λ (z : List (List ℕ)). length z) same ∙ lines_to k t calls i le), same ∙ ap reply_lines (sym here))

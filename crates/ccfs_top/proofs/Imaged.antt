@@ -1,27 +1,30 @@
 -- What a session knows of the image that it was opened on.
-use Rattle.std.proofs.Common.{◌≡◌, ℕ, ◌-◌, List, length, refl, sym, ap, ◌∙◌, subst, arith}
+use Rattle.std.proofs.Common.{◌≡◌, ℕ, ◌-◌, ◌<◌, ◌^◌, List, length, refl, sym, ap, ◌∙◌, subst, arith}
+use Rattle.std.specs.declared.option.Option.{Option}
 use Rattle.std.specs.declared.option.Option.TheVariants.{None, Some}
 use Rattle.block_layout.specs.declared.geometry.Geometry.{Geometry}
 use Rattle.block_layout.specs.Sizes.{data_start}
 use Rattle.tree_cuts.specs.Calls.{Sizes}
 use Rattle.tree_model.specs.Rows.{Rows}
-use Rattle.tree_model.specs.Picture.{picture}
 use Rattle.gate_journal.specs.declared.halves.Half.{Half}
 use Rattle.gate_journal.specs.Halves.{half_of, size_of, journal_of}
 use Rattle.gate_journal.specs.Journal.{journal}
 use Rattle.atomic_volume.specs.Opening.{Contents}
 use Rattle.atomic_volume.specs.Held.{contents_by, Holds}
-use Rattle.image_model.specs.Volumes.{volume_of, table_of}
+use Rattle.image_model.specs.declared.check.Check.{Check}
+use Rattle.image_model.specs.Reading.{IsWhole}
+use Rattle.image_model.specs.Volumes as volumes
+use Rattle.image_model.specs.Volumes.{volume_of, metadata, table_of}
 use Rattle.image_model.specs.Files.{file_bytes}
-use Rattle.image_model.specs.Checks.{first_failure_for_now}
-use Rattle.pending_rows.specs.declared.pending.PendingRows.{PendingRows}
-use Rattle.pending_rows.specs.Waiting.{Waits}
-use Rattle.recovery.specs.Recovering.{pictured, picture_shown, tree_held, recovered_for_now}
 use Rattle.image_model.specs.Trees.{inodes_of, tree_of}
+use Rattle.image_model.specs.Checks.{first_failure_for_now}
+use Rattle.carried_volumes.specs.Laws.{IsOpened}
+use Rattle.front_core.specs.Fronts.{Fronted, sizes_of, new_front}
+use Rattle.recovery.specs.Recovering.{volume_in, where_sound, tree_held, recovered_for_now}
 use Rattle.ccfs_top.specs.Images.{IsImage}
-use Rattle.ccfs_top.specs.Runs.{image_by}
-use Rattle.ccfs_top.specs.Stages.{sizes}
-use Rattle.ccfs_top.proofs.Viewing.{tree_is}
+use Rattle.ccfs_top.specs.Runs.{image_by, further}
+use Rattle.ccfs_top.specs.Sessions.{Settled}
+use Rattle.carried_volumes.proofs.Opening.{sound_volumes_are_opened}
 
 -- ---- sizes
 
@@ -31,32 +34,45 @@ sized data_blocks inodes = record { data_blocks = data_blocks; inodes = inodes }
 data_left : (g : Geometry) → g.data_blocks ≡ g.blocks - data_start g.inodes
 data_left g = omega (arith, g.first_data_place, g.data_to_the_end)
 
-sizes_by : (g : Geometry) → sizes g ≡ sized (g.blocks - data_start g.inodes) g.inodes
+sizes_by : (g : Geometry) → sizes_of g ≡ sized (g.blocks - data_start g.inodes) g.inodes
 sizes_by g = ap (λ (z : ℕ). sized z g.inodes) (data_left g)
-
--- images with as many blocks and inodes have as many data blocks
-pub same_sizes : (g h : Geometry) → g.blocks ≡ h.blocks → g.inodes ≡ h.inodes → sizes g ≡ sizes h
-same_sizes g h blocks inodes =
-    sizes_by g ∙ ap (λ (z : ℕ). sized (z - data_start g.inodes) g.inodes) blocks ∙ ap (λ (z : ℕ). sized (h.blocks - data_start z) z) inodes ∙ sym (sizes_by h)
 
 -- ---- an opened image
 
--- a volume shows the picture of the tree that it holds
-pub held_shown : (contents : Contents) (p : ℕ × Rows) → tree_held contents ≡ Some p → picture_shown contents ≡ Some (p.0, picture p.1)
-held_shown contents p held = ap pictured held
+some_same : {A : Type 0} {x y : A} → Some x ≡ Some y → x ≡ y
+some_same e = cc
 
--- over a sound volume in which the serials have these inodes, nothing waits yet
-abbrev pub Begins : Geometry → List ℕ → List ℕ → PendingRows → Type 0
-Begins geometry bytes inodes p =
-    first_failure_for_now None (volume_of geometry bytes) ≡ None → inodes ≡ inodes_of (table_of (volume_of geometry bytes)) (file_bytes (volume_of geometry bytes))
-    → Waits (volume_of geometry bytes) p (tree_of (volume_of geometry bytes)) 0
+held_is : {A : Type 0} (o : Option (Check × ℕ)) (p q : A) → where_sound o p ≡ Some q → p ≡ q
+held_is None p q is = some_same is
+held_is (Some failed) p q is = absurd (cc is)
 
--- then nothing waits over the tree that the volume holds
-pub waits_held : (geometry g : Geometry) (half : Half) (bytes b inodes : List ℕ) (n : ℕ) (t : Rows) (p : PendingRows) → g ≡ geometry → b ≡ bytes → tree_held (contents_by geometry half bytes) ≡ Some (n, t)
-    → first_failure_for_now None (volume_of geometry bytes) ≡ None → inodes ≡ inodes_of (table_of (volume_of geometry bytes)) (file_bytes (volume_of geometry bytes)) → Begins g b inodes p → Waits (volume_of geometry bytes) p t 0
-waits_held geometry g half bytes b inodes n t p same_geometry same_bytes held sound listed begins =
-    let here : Begins geometry bytes inodes p = subst (λ (z : Geometry). Begins z bytes inodes p) same_geometry (subst (λ (z : List ℕ). Begins g z inodes p) same_bytes begins) in
-    subst (λ (z : Rows). Waits (volume_of geometry bytes) p z 0) (tree_is (contents_by geometry half bytes) n t held) (here sound listed)
+-- the number and the tree that contents hold are the volume's
+held_volume : (contents : Contents) (n : ℕ) (t : Rows) → tree_held contents ≡ Some (n, t) → ◌≡◌ {A = ℕ × Rows} (volumes.number (volume_in contents), tree_of (volume_in contents)) (n, t)
+held_volume contents n t held = held_is _ (volumes.number (volume_in contents), tree_of (volume_in contents)) (n, t) held
+
+module _ (g : Geometry) (half : Half) (bytes inodes : List ℕ) (n : ℕ) (t : Rows) (whole : IsWhole g bytes) (held : tree_held (contents_by g half bytes) ≡ Some (n, t))
+    (sound : first_failure_for_now None (volume_of g bytes) ≡ None) (listed : inodes ≡ inodes_of (table_of (volume_of g bytes)) (file_bytes (volume_of g bytes))) where
+  tree_is : tree_of (volume_of g bytes) ≡ t
+  tree_is = ap (λ (z : ℕ × Rows). z.1) (held_volume (contents_by g half bytes) n t held)
+
+  -- what is known of the volume
+  pub opened_is : IsOpened (volume_of g bytes) t inodes
+  opened_is =
+      subst (λ (z : Rows). IsOpened (volume_of g bytes) z inodes) tree_is
+      (subst (λ (z : List ℕ). IsOpened (volume_of g bytes) (tree_of (volume_of g bytes)) z) (sym listed) (sound_volumes_are_opened g bytes whole sound))
+
+  -- a front that was just made is settled on it
+  pub settled_first : (at_hand : List ℕ) (front : Fronted) (limit : ℕ) → n < 2 ^ 64 → at_hand ≡ metadata (volume_of g bytes) → front ≡ new_front g limit t inodes → Settled g bytes at_hand front n 0
+  settled_first at_hand front limit small copied is =
+      let new : Fronted = new_front g limit t inodes in
+      let number : n ≡ further n 0 = omega (arith, small) in
+      subst (λ (z : Fronted). Settled g bytes at_hand z n 0) (sym is) (record {
+        sizes = refl;
+        carried = opened_is.carried;
+        copied = copied;
+        number = ap (λ (z : ℕ × Rows). z.0) (held_volume (contents_by g half bytes) n t held) ∙ number;
+        few = omega arith;
+      })
 
 -- the bytes that a volume holds are the image that its session counts with
 pub image_held : (number : ℕ) (tree : Rows) (geometry : Geometry) (half : Half) (bytes c : List ℕ) → Holds geometry half bytes c → size_of half ≡ length bytes

@@ -1,120 +1,190 @@
 -- One call more in a run.
 use Rattle.std.proofs.Common.{◌≡◌, ℕ, ◌+◌, ◌≤◌, ◌<◌, Bool, true, false, cond, List, [], ◌∷◌, ◌++◌, length, take, drop, get_or, refl, sym, ap, ◌∙◌, subst, arith, append_assoc}
 use Rattle.std.proofs.lemmas.List.{append-nil, take_more, drop_more, drop_all, map-append}
+use Rattle.std.specs.declared.option.Option.{Option}
 use Rattle.std.specs.declared.option.Option.TheVariants.{None, Some}
 use Rattle.std.specs.declared.result.Result.{Result}
 use Rattle.std.specs.declared.result.Result.TheVariants.{Ok, Err}
+use Rattle.std.specs.Prelude.{is_some, not, ◌||◌, ◌==◌, map}
 use Rattle.ccfs_base.specs.declared.commands.Command.{Command}
 use Rattle.ccfs_base.specs.declared.commands.Command.TheVariants as command
 use Rattle.ccfs_base.specs.declared.replies.Refusal.{Refusal}
-use Rattle.ccfs_base.specs.declared.replies.Refusal.TheVariants.{Exists, NoInode}
-use Rattle.std.specs.Prelude.{is_some}
-use Rattle.tree_model.specs.declared.rows.Update.TheVariants.{Make}
-use Rattle.tree_model.specs.Entries.{entry}
-use Rattle.tree_model.specs.Walk.{last_of, parent_walk}
+use Rattle.ccfs_base.specs.declared.replies.Refusal.TheVariants as refusal
+use Rattle.ccfs_base.specs.declared.replies.Reply.{Reply}
+use Rattle.ccfs_base.specs.declared.replies.Reply.TheVariants as reply
+use Rattle.ccfs_base.specs.Limits.{blocks}
 use Rattle.tree_model.specs.declared.rows.Update.{Update}
+use Rattle.tree_model.specs.declared.rows.Update.TheVariants as update
+use Rattle.tree_model.specs.Weights.{length_at}
 use Rattle.tree_model.specs.declared.rows.Entry.{Entry}
-use Rattle.tree_model.specs.Rows.{Rows}
-use Rattle.tree_cuts.specs.Calls.{Sizes, Accepted, call_steps}
-use Rattle.history_model.specs.State.{Now, stream_in}
-use Rattle.history_model.specs.Answers.{Answer, make, from_row, closes, is_root, refused, does, no_inode}
-use Rattle.history_model.specs.Histories.{steps_by, entered_by, entry_of, now_after, hist, seal_count, tree_at, synced_number, durable}
-use Rattle.history_model.proofs.Longer.{hist_append, hist_more, now_more, durable_more, longer_trees, last_cut, seals_counted}
+use Rattle.tree_model.specs.Entries.{entry, children}
+use Rattle.tree_model.specs.Walk.{walk, parent_walk, last_of}
+use Rattle.tree_model.specs.Rows.{Rows, is_dir_at, place_of}
+use Rattle.tree_model.specs.Tests.{is_above, is_empty_at}
+use Rattle.std.specs.FinMap.{get, len}
+use Rattle.tree_cuts.specs.Calls.{Sizes}
+use Rattle.history_model.specs.State.{Now, stream_in, is_open_on}
+use Rattle.history_model.specs.Answers as answers
+use Rattle.history_model.specs.Answers.{Answer, answer, from_row, at_place}
+use Rattle.history_model.specs.Histories.{start, entered_by, entry_of, now_after, hist, seal_count, synced_number, durable}
+use Rattle.history_model.proofs.Longer.{hist_append, hist_more, now_more, durable_more, seals_counted}
 use Rattle.script_text.specs.declared.scripts.Call.{Call}
-use Rattle.ccfs_top.specs.Stages.{Room, is_blocked, forces_a_seal, room_after}
+use Rattle.front_laws.specs.Kept.{is_answered}
+use Rattle.ccfs_top.specs.Stages.{Room, is_blocked, is_sync_form, called, have_room, all_sizes}
 use Rattle.ccfs_top.specs.Runs.{asked, history, made, stopped, line_of, reply_lines}
 use Rattle.ccfs_top.specs.Ends.{joined}
-use Rattle.ccfs_base.specs.declared.replies.Reply.{Reply}
-use Rattle.ccfs_top.specs.Sessions.{Stands, Answered}
-use Rattle.ccfs_top.proofs.Weighing.{in_zero, accepted_alone}
-use Rattle.ccfs_top.specs.Reached.{history_to, now_at, Reached}
+use Rattle.ccfs_top.specs.Reached.{history_to, Reached}
 
 -- ---- what a reply acknowledges
 
-plain_if : (d : ℕ) (b : Bool) (x y : Answer) → synced_number d x.0 ≡ d → synced_number d y.0 ≡ d → synced_number d (cond b x y).0 ≡ d
-plain_if d true x y p q = p
-plain_if d false x y p q = q
+-- the answer acknowledges nothing
+record IsQuiet (d : ℕ) (a : Answer) : Type 0 where
+  is : synced_number d a.0 ≡ d
 
-plain_in : (d : ℕ) (r : Result ℕ Refusal) (f : ℕ → Answer) → ((x : ℕ) → synced_number d (f x).0 ≡ d) → synced_number d (from_row r f).0 ≡ d
-plain_in d (Ok x) f p = p x
-plain_in d (Err cause) f p = refl
+quiet_if : (d : ℕ) (b : Bool) (x y : Answer) → IsQuiet d x → IsQuiet d y → IsQuiet d (cond b x y)
+quiet_if d true x y p q = p
+quiet_if d false x y p q = q
 
-abbrev if_inode : Sizes → Now → ℕ → Bool → List (List ℕ) → ℕ → Answer
-if_inode k n s b path x = cond (no_inode k n s) (refused NoInode) (does (Make x (last_of path) n.next b))
+quiet_no : (d : ℕ) (b : Bool) (cause : Refusal) (y : Answer) → IsQuiet d y → IsQuiet d (answers.refuses b cause y)
+quiet_no d b cause y q = quiet_if d b (answers.refused cause) y (record { is = refl }) q
 
-abbrev then_make : Sizes → Now → ℕ → Bool → List (List ℕ) → ℕ → Answer
-then_make k n s b path x = cond (is_some (entry n.tree x (last_of path))) (refused Exists) (if_inode k n s b path x)
+quiet_in : (d : ℕ) (r : Result ℕ Refusal) (f : ℕ → Answer) → ((x : ℕ) → IsQuiet d (f x)) → IsQuiet d (from_row r f)
+quiet_in d (Ok x) f p = p x
+quiet_in d (Err cause) f p = record { is = refl }
 
--- mkdir and create acknowledge nothing
-plain_make : (k : Sizes) (d : ℕ) (n : Now) (s : ℕ) (b : Bool) (path : List (List ℕ)) → synced_number d (make k n s b path).0 ≡ d
-plain_make k d n s b path =
-    plain_if d (is_root path) (refused Exists) (from_row (parent_walk n.tree path) (then_make k n s b path)) refl (plain_in d (parent_walk n.tree path) (then_make k n s b path) (λ x.
-    plain_if d (is_some (entry n.tree x (last_of path))) (refused Exists) (if_inode k n s b path x) refl
-    (plain_if d (no_inode k n s) (refused NoInode) (does (Make x (last_of path) n.next b)) refl refl)))
+quiet_at : (d : ℕ) (o : Option (ℕ × List ℕ)) (f : ℕ → List ℕ → Answer) → ((x : ℕ) (n : List ℕ) → IsQuiet d (f x n)) → IsQuiet d (at_place o f)
+quiet_at d (Some p) f all = all p.0 p.1
+quiet_at d None f all = record { is = refl }
 
--- an entry of an actor, with a reply and an update or none
-abbrev entry_with : Now → ℕ → Command → Answer → Entry
-entry_with n a c ans = record { actor = a; stream = stream_in n.choices a; command = c; reply = ans.0; update = ans.1 }
+quiet_does : (d : ℕ) (u : Update) → IsQuiet d (answers.does u)
+quiet_does d u = record { is = refl }
 
-no_seal : (k : Sizes) (n : Now) (t : Rows) (sealed waiting a : ℕ) (u : Update) → Stands n t sealed waiting → forces_a_seal k n (stream_in n.choices a) (Some u) ≡ false
-    → closes (call_steps k n.tree n.unsealed (Accepted (stream_in n.choices a) u)) ≡ 0
-no_seal k n t sealed waiting a u stands free = ap closes (accepted_alone k n (stream_in n.choices a) u (in_zero n a stands.choices) stands.of_makes free)
+abbrev made_in : Sizes → Now → ℕ → Bool → List (List ℕ) → ℕ → Answer
+made_in k n s b path dir = answers.refuses (answers.no_inode k n s) refusal.NoInode (answers.does (update.Make dir (last_of path) n.next b))
 
-quiet_mkdir : (k : Sizes) (n : Now) (t : Rows) (sealed waiting a : ℕ) (path : List (List ℕ)) (ans : Answer) → Stands n t sealed waiting → forces_a_seal k n (stream_in n.choices a) ans.1 ≡ false
-    → closes (steps_by k n (entry_with n a (command.Mkdir path) ans)) ≡ 0
-quiet_mkdir k n t sealed waiting a path (r, None) stands free = refl
-quiet_mkdir k n t sealed waiting a path (r, Some u) stands free = no_seal k n t sealed waiting a u stands free
+abbrev made_at : Sizes → Now → ℕ → Bool → List (List ℕ) → ℕ → Answer
+made_at k n s b path dir = answers.refuses (is_some (entry n.tree dir (last_of path))) refusal.Exists (made_in k n s b path dir)
 
-quiet_create : (k : Sizes) (n : Now) (t : Rows) (sealed waiting a : ℕ) (path : List (List ℕ)) (ans : Answer) → Stands n t sealed waiting → forces_a_seal k n (stream_in n.choices a) ans.1 ≡ false
-    → closes (steps_by k n (entry_with n a (command.Create path) ans)) ≡ 0
-quiet_create k n t sealed waiting a path (r, None) stands free = refl
-quiet_create k n t sealed waiting a path (r, Some u) stands free = no_seal k n t sealed waiting a u stands free
+quiet_make : (k : Sizes) (d : ℕ) (n : Now) (s : ℕ) (b : Bool) (path : List (List ℕ)) → IsQuiet d (answers.make k n s b path)
+quiet_make k d n s b path = quiet_no d (answers.is_root path) refusal.Exists (answers.at_parent n.tree path (made_at k n s b path))
+    (quiet_in d (parent_walk n.tree path) (made_at k n s b path) (λ dir. quiet_no d (is_some (entry n.tree dir (last_of path))) refusal.Exists (made_in k n s b path dir)
+    (quiet_no d (answers.no_inode k n s) refusal.NoInode (answers.does (update.Make dir (last_of path) n.next b)) (quiet_does d (update.Make dir (last_of path) n.next b)))))
 
--- after a call that wasn't blocked, what is durable is what was sealed, if it was so before
-pub durable_on : (k : Sizes) (room : Room) (n : Now) (t : Rows) (sealed waiting a : ℕ) (c : Command) (d : ℕ) → Stands n t sealed waiting → is_blocked k room n a c ≡ false → d ≡ n.seals
-    → synced_number d (entry_of k n a c).reply ≡ (entered_by k n (entry_of k n a c)).seals
-durable_on k room n t sealed waiting a (command.Mkdir path) d stands free is =
-    let quiet = quiet_mkdir k n t sealed waiting a path (make k n (stream_in n.choices a) true path) stands free in
-    plain_make k d n (stream_in n.choices a) true path ∙ omega (arith, is, quiet)
-durable_on k room n t sealed waiting a (command.Create path) d stands free is =
-    let quiet = quiet_create k n t sealed waiting a path (make k n (stream_in n.choices a) false path) stands free in
-    plain_make k d n (stream_in n.choices a) false path ∙ omega (arith, is, quiet)
-durable_on k room n t sealed waiting a command.StreamSync d stands free is = refl
-durable_on k room n t sealed waiting a c d stands free is = absurd (cc)
+abbrev removed : ℕ → Bool → ℕ → List ℕ → Answer
+removed x stays dir name = answers.does (update.Remove dir name x stays)
 
--- ---- the tree that is durable
+quiet_removed : (d x : ℕ) (stays : Bool) (o : Option (ℕ × List ℕ)) → IsQuiet d (at_place o (removed x stays))
+quiet_removed d x stays o = quiet_at d o (removed x stays) (λ dir name. quiet_does d (update.Remove dir name x stays))
 
-pub quiet_tree : (k : Sizes) (n0 : Now) (h : List Entry) (e : Entry) → n0.seals ≡ 0 → (entered_by k (now_after k n0 h) e).seals ≡ (now_after k n0 h).seals
-    → tree_at k n0 (h ++ e ∷ []) (entered_by k (now_after k n0 h) e).seals ≡ tree_at k n0 h (now_after k n0 h).seals
-quiet_tree k n0 h e fresh same =
-    let counted = seals_counted k n0 h in
-    ap (tree_at k n0 (h ++ e ∷ [])) same ∙ longer_trees k n0 h (e ∷ []) (now_after k n0 h).seals (omega (arith, counted, fresh))
+abbrev unlinked : Now → ℕ → Answer
+unlinked n x = answers.refuses (is_dir_at n.tree x) refusal.IsDir (at_place (place_of n.tree x) (removed x (is_open_on n.handles x)))
 
-pub sealed_tree : (k : Sizes) (n0 : Now) (h : List Entry) (e : Entry) → n0.unsealed ≡ [] → n0.seals ≡ 0 → (entered_by k (now_after k n0 h) e).unsealed ≡ []
-    → tree_at k n0 (h ++ e ∷ []) (entered_by k (now_after k n0 h) e).seals ≡ (entered_by k (now_after k n0 h) e).tree
-sealed_tree k n0 h e start fresh now =
-    let one : now_after k n0 (h ++ e ∷ []) ≡ entered_by k (now_after k n0 h) e = now_more k n0 h e in
-    let counted : (entered_by k (now_after k n0 h) e).seals ≡ seal_count k n0 (h ++ e ∷ []) =
-    ap (λ (z : Now). z.seals) (sym one) ∙ seals_counted k n0 (h ++ e ∷ []) ∙ ap (λ (z : ℕ). z + seal_count k n0 (h ++ e ∷ [])) fresh ∙ omega arith in
-    ap (tree_at k n0 (h ++ e ∷ [])) counted
-    ∙ last_cut k n0 (h ++ e ∷ []) start (ap (λ (z : Now). z.unsealed) one ∙ now)
-    ∙ ap (λ (z : Now). z.tree) one
+quiet_unlink : (k : Sizes) (d : ℕ) (n : Now) (path : List (List ℕ)) → IsQuiet d (answers.unlink k n path)
+quiet_unlink k d n path = quiet_no d (answers.is_root path) refusal.Root (answers.at_path n.tree path (unlinked n))
+    (quiet_in d (walk n.tree path 0) (unlinked n) (λ x. quiet_no d (is_dir_at n.tree x) refusal.IsDir (at_place (place_of n.tree x) (removed x (is_open_on n.handles x)))
+    (quiet_removed d x (is_open_on n.handles x) (place_of n.tree x))))
+
+abbrev emptied : Now → ℕ → Answer
+emptied n x = answers.refuses (not (is_empty_at n.tree x)) refusal.NotEmpty (at_place (place_of n.tree x) (removed x false))
+
+abbrev unmade : Now → ℕ → Answer
+unmade n x = answers.refuses (not (is_dir_at n.tree x)) refusal.NotDir (emptied n x)
+
+quiet_rmdir : (k : Sizes) (d : ℕ) (n : Now) (path : List (List ℕ)) → IsQuiet d (answers.rmdir k n path)
+quiet_rmdir k d n path = quiet_no d (answers.is_root path) refusal.Root (answers.at_path n.tree path (unmade n))
+    (quiet_in d (walk n.tree path 0) (unmade n) (λ x. quiet_no d (not (is_dir_at n.tree x)) refusal.NotDir (emptied n x)
+    (quiet_no d (not (is_empty_at n.tree x)) refusal.NotEmpty (at_place (place_of n.tree x) (removed x false)) (quiet_removed d x false (place_of n.tree x)))))
+
+abbrev moved : ℕ → ℕ → List ℕ → Bool → Option ℕ → Bool → ℕ → List ℕ → Answer
+moved x to_dir to_name is_dir replaced stays dir name = answers.does (update.Move dir name to_dir to_name x is_dir replaced stays)
+
+quiet_moved : (d x to_dir : ℕ) (to_name : List ℕ) (is_dir : Bool) (replaced : Option ℕ) (stays : Bool) (o : Option (ℕ × List ℕ)) → IsQuiet d (at_place o (moved x to_dir to_name is_dir replaced stays))
+quiet_moved d x to_dir to_name is_dir replaced stays o = quiet_at d o (moved x to_dir to_name is_dir replaced stays) (λ dir name. quiet_does d (update.Move dir name to_dir to_name x is_dir replaced stays))
+
+quiet_move : (k : Sizes) (d : ℕ) (n : Now) (x to_dir : ℕ) (name : List ℕ) (o : Option ℕ) → IsQuiet d (answers.move_to k n x to_dir name o)
+quiet_move k d n x to_dir name None = quiet_moved d x to_dir name (is_dir_at n.tree x) None false (place_of n.tree x)
+quiet_move k d n x to_dir name (Some y) =
+    let over = at_place (place_of n.tree x) (moved x to_dir name false (Some y) (is_open_on n.handles y)) in
+    let refused = answers.refuses (is_dir_at n.tree x || is_dir_at n.tree y) refusal.Exists over in
+    quiet_if d (y == x) (answers.tells reply.Done) refused (record { is = refl })
+    (quiet_no d (is_dir_at n.tree x || is_dir_at n.tree y) refusal.Exists over (quiet_moved d x to_dir name false (Some y) (is_open_on n.handles y) (place_of n.tree x)))
+
+abbrev moved_in : Sizes → Now → List (List ℕ) → ℕ → ℕ → Answer
+moved_in k n to x to_dir = answers.refuses (is_above (len n.tree) n.tree x (Some to_dir)) refusal.Loop (answers.move_to k n x to_dir (last_of to) (entry n.tree to_dir (last_of to)))
+
+abbrev moved_to : Sizes → Now → List (List ℕ) → ℕ → Answer
+moved_to k n to x = answers.at_parent n.tree to (moved_in k n to x)
+
+quiet_rename : (k : Sizes) (d : ℕ) (n : Now) (path to : List (List ℕ)) → IsQuiet d (answers.rename k n path to)
+quiet_rename k d n path to = quiet_no d (answers.is_root path || answers.is_root to) refusal.Root (answers.at_path n.tree path (moved_to k n to))
+    (quiet_in d (walk n.tree path 0) (moved_to k n to) (λ x. quiet_in d (parent_walk n.tree to) (moved_in k n to x) (λ y.
+    quiet_no d (is_above (len n.tree) n.tree x (Some y)) refusal.Loop (answers.move_to k n x y (last_of to) (entry n.tree y (last_of to))) (quiet_move k d n x y (last_of to) (entry n.tree y (last_of to))))))
+
+quiet_stat : (k : Sizes) (d : ℕ) (n : Now) (x : ℕ) → IsQuiet d (answers.stat k n x)
+quiet_stat k d n x = quiet_if d (is_dir_at n.tree x) (answers.tells (reply.StatDir (length (children n.tree x)) (answers.row_changes (get n.tree x))))
+    (answers.tells (reply.StatFile (length_at n.tree x) (blocks (length_at n.tree x)))) (record { is = refl }) (record { is = refl })
+
+abbrev listed : Now → ℕ → ℕ → Answer
+listed n skip x = answers.tells (reply.Listed (length (children n.tree x)) (map (λ e. (e.0, is_dir_at n.tree e.1)) (take 64 (drop skip (children n.tree x)))))
+
+quiet_list : (k : Sizes) (d : ℕ) (n : Now) (skip x : ℕ) → IsQuiet d (answers.listing k n skip x)
+quiet_list k d n skip x = quiet_no d (not (is_dir_at n.tree x)) refusal.NotDir (listed n skip x) (record { is = refl })
+
+-- a built command that is no sync form acknowledges nothing
+quiet_answer : (k : Sizes) (d : ℕ) (n : Now) (a : ℕ) (c : Command) → is_answered c ≡ true → is_sync_form c ≡ false → IsQuiet d (answer k n a c)
+quiet_answer k d n a (command.Mkdir path) built other = quiet_make k d n (stream_in n.choices a) true path
+quiet_answer k d n a (command.Create path) built other = quiet_make k d n (stream_in n.choices a) false path
+quiet_answer k d n a (command.Unlink path) built other = quiet_unlink k d n path
+quiet_answer k d n a (command.Rmdir path) built other = quiet_rmdir k d n path
+quiet_answer k d n a (command.Rename path to) built other = quiet_rename k d n path to
+quiet_answer k d n a (command.Stat path) built other = quiet_in d (walk n.tree path 0) (answers.stat k n) (λ x. quiet_stat k d n x)
+quiet_answer k d n a (command.List path skip) built other = quiet_in d (walk n.tree path 0) (answers.listing k n skip) (λ x. quiet_list k d n skip x)
+quiet_answer k d n a (command.SetStream stream ignore) built other = record { is = refl }
+quiet_answer k d n a c built other = absurd (cc (built, other))
+
+-- a sync form acknowledges all seals
+full_answer : (k : Sizes) (d : ℕ) (n : Now) (a : ℕ) (c : Command) → is_sync_form c ≡ true → synced_number d (answer k n a c).0 ≡ (entered_by k n (entry_of k n a c)).seals
+full_answer k d n a command.StreamSync sync = refl
+full_answer k d n a command.Sync sync = refl
+full_answer k d n a command.Flush sync = refl
+full_answer k d n a c sync = absurd (cc sync)
+
+-- what isn't blocked is built
+pub built_of : (k : Sizes) (room : Room) (t : Rows) (h : List Entry) (a : ℕ) (c : Command) → is_blocked k room t h a c ≡ false → is_answered c ≡ true
+built_of k room t h a c free = go (is_answered c) _ free
+  where
+    go : (b x : Bool) → (not b || x) ≡ false → b ≡ true
+    go true x is = refl
+    go false x is = absurd (cc is)
+
+-- how many seals are acknowledged after a call that isn't blocked: all where it is a sync form, else as many as before
+pub acknowledged_by : (k : Sizes) (room : Room) (t : Rows) (h : List Entry) (a : ℕ) (c : Command) (d : ℕ) → is_blocked k room t h a c ≡ false
+    → cond (is_sync_form c) (seal_count k (start t) (called k t h a c)) d ≡ synced_number d (entry_of k (now_after k (start t) h) a c).reply
+acknowledged_by k room t h a c d free = go (is_sync_form c) refl
+  where
+    n : Now
+    n = now_after k (start t) h
+
+    e : Entry
+    e = entry_of k n a c
+
+    counted : seal_count k (start t) (called k t h a c) ≡ (entered_by k n e).seals
+    counted = let all = seals_counted k (start t) (h ++ e ∷ []) in
+        let more = ap (λ (z : Now). z.seals) (now_more k (start t) h e) in
+        omega (arith, all, more)
+
+    go : (b : Bool) → is_sync_form c ≡ b → cond b (seal_count k (start t) (called k t h a c)) d ≡ synced_number d e.reply
+    go true sync = counted ∙ sym (full_answer k d n a c sync)
+    go false other = sym (quiet_answer k d n a c (built_of k room t h a c free) other).is
 
 -- ---- one call more
 
-abbrev entry_at : Sizes → Now → Call → Entry
-entry_at k n c = entry_of k n c.actor c.command
-
-pub history_on : (k : Sizes) (n0 : Now) (calls : List Call) (i : ℕ) (c : Call) → i < length calls → c ≡ get_or calls i c
-    → history_to k n0 calls (i + 1) ≡ history_to k n0 calls i ++ entry_at k (now_at k n0 calls i) c ∷ []
-history_on k n0 calls i c lt is =
-    ap (history k n0) (take_more calls i c lt ∙ ap (λ (z : Call). take i calls ++ z ∷ []) (sym is))
-    ∙ ap (hist k n0) (map-append (λ (z : Call). (z.actor, z.command)) (take i calls) (c ∷ []))
-    ∙ hist_more k n0 (asked (take i calls)) (c.actor, c.command)
-
-pub now_on : (k : Sizes) (n0 : Now) (calls : List Call) (i : ℕ) (c : Call) → i < length calls → c ≡ get_or calls i c
-    → now_at k n0 calls (i + 1) ≡ entered_by k (now_at k n0 calls i) (entry_at k (now_at k n0 calls i) c)
-now_on k n0 calls i c lt is = ap (now_after k n0) (history_on k n0 calls i c lt is) ∙ now_more k n0 (history_to k n0 calls i) (entry_at k (now_at k n0 calls i) c)
+pub history_on : (k : Sizes) (t : Rows) (calls : List Call) (i : ℕ) (c : Call) → i < length calls → c ≡ get_or calls i c
+    → history_to k (start t) calls (i + 1) ≡ called k t (history_to k (start t) calls i) c.actor c.command
+history_on k t calls i c lt is =
+    ap (history k (start t)) (take_more calls i c lt ∙ ap (λ (z : Call). take i calls ++ z ∷ []) (sym is))
+    ∙ ap (hist k (start t)) (map-append (λ (z : Call). (z.actor, z.command)) (take i calls) (c ∷ []))
+    ∙ hist_more k (start t) (asked (take i calls)) (c.actor, c.command)
 
 rest_is : (calls : List Call) (i : ℕ) (c : Call) → i < length calls → c ≡ get_or calls i c → drop i calls ≡ c ∷ drop (i + 1) calls
 rest_is calls i c lt is = drop_more calls i c lt ∙ ap (λ (z : Call). z ∷ drop (i + 1) calls) (sym is)
@@ -122,63 +192,52 @@ rest_is calls i c lt is = drop_more calls i c lt ∙ ap (λ (z : Call). z ∷ dr
 front_is : (calls : List Call) (i : ℕ) (c : Call) → i < length calls → c ≡ get_or calls i c → take (i + 1) calls ≡ take i calls ++ c ∷ []
 front_is calls i c lt is = take_more calls i c lt ∙ ap (λ (z : Call). take i calls ++ z ∷ []) (sym is)
 
-pub reached_start : (k : Sizes) (room : Room) (n0 : Now) (calls : List Call) (tree : Rows) (unsealed : ℕ) → Stands n0 tree 0 unsealed → Reached k room n0 calls 0 tree 0 unsealed room
-reached_start k room n0 calls tree unsealed stands = record { stands = stands; made = refl; stop = refl; acknowledged = refl; few = omega arith }
+pub reached_start : (k : Sizes) (room : Room) (t : Rows) (calls : List Call) → Reached k room t calls 0 [] 0
+reached_start k room t calls = record { entries = refl; made_so_far = refl; stop = refl; acknowledged = refl }
 
-pub reached_on : (k : Sizes) (room0 : Room) (n0 : Now) (calls : List Call) (i : ℕ) (c : Call) (answer : Reply) (tree tree' : Rows) (seals unsealed seals' unsealed' : ℕ) (room room' : Room)
-    → i < length calls → c ≡ get_or calls i c → Reached k room0 n0 calls i tree seals unsealed room
-    → Answered k room (now_at k n0 calls i) c.actor c.command answer tree' seals' unsealed' room' → seals' ≤ seals + 1 → Reached k room0 n0 calls (i + 1) tree' seals' unsealed' room'
-reached_on k room0 n0 calls i c answer tree tree' seals unsealed seals' unsealed' room room' lt is r p rises =
-    let n = now_at k n0 calls i in
-    let e = entry_at k n c in
-    let m = entered_by k n e in
-    let on = room_after room n c.actor c.command in
-    let one : now_at k n0 calls (i + 1) ≡ m = now_on k n0 calls i c lt is in
-    let go : made k room n (drop i calls) ≡ c ∷ made k room' m (drop (i + 1) calls) =
-    ap (made k room n) (rest_is calls i c lt is) ∙ ap (λ (b : Bool). cond b [] (c ∷ made k on m (drop (i + 1) calls))) p.unblocked
-    ∙ ap (λ (z : Room). c ∷ made k z m (drop (i + 1) calls)) (sym p.room_on) in
-    let halt : stopped k room n (drop i calls) ≡ stopped k room' m (drop (i + 1) calls) =
-    ap (stopped k room n) (rest_is calls i c lt is) ∙ ap (λ (b : Bool). cond b (Some c.line) (stopped k on m (drop (i + 1) calls))) p.unblocked
-    ∙ ap (λ (z : Room). stopped k z m (drop (i + 1) calls)) (sym p.room_on) in
+pub reached_on : (k : Sizes) (room : Room) (t : Rows) (calls : List Call) (i : ℕ) (c : Call) (h : List Entry) (d d' : ℕ) → i < length calls → c ≡ get_or calls i c
+    → Reached k room t calls i h d → is_blocked k room t h c.actor c.command ≡ false → d' ≡ synced_number d (entry_of k (now_after k (start t) h) c.actor c.command).reply
+    → Reached k room t calls (i + 1) (called k t h c.actor c.command) d'
+reached_on k room t calls i c h d d' lt is r free synced =
+    let on = called k t h c.actor c.command in
+    let go : made k room t h (drop i calls) ≡ c ∷ made k room t on (drop (i + 1) calls) =
+    ap (made k room t h) (rest_is calls i c lt is) ∙ ap (λ (b : Bool). cond b [] (c ∷ made k room t on (drop (i + 1) calls))) free in
+    let halt : stopped k room t h (drop i calls) ≡ stopped k room t on (drop (i + 1) calls) =
+    ap (stopped k room t h) (rest_is calls i c lt is) ∙ ap (λ (b : Bool). cond b (Some c.line) (stopped k room t on (drop (i + 1) calls))) free in
     record {
-      stands = subst (λ (z : Now). Stands z tree' seals' unsealed') (sym one) p.stands;
-      made = r.made ∙ ap (λ (z : List Call). take i calls ++ z) go
-          ∙ sym (append_assoc (take i calls) (c ∷ []) (made k room' m (drop (i + 1) calls)))
-          ∙ ap (λ (z : List Call). z ++ made k room' m (drop (i + 1) calls)) (sym (front_is calls i c lt is))
-          ∙ ap (λ (z : Now). take (i + 1) calls ++ made k room' z (drop (i + 1) calls)) (sym one);
-      stop = r.stop ∙ halt ∙ ap (λ (z : Now). stopped k room' z (drop (i + 1) calls)) (sym one);
-      acknowledged = ap durable (history_on k n0 calls i c lt is) ∙ durable_more (history_to k n0 calls i) e
-          ∙ durable_on k room n tree seals unsealed c.actor c.command (durable (history_to k n0 calls i)) r.stands p.unblocked (r.acknowledged ∙ r.stands.seals)
-          ∙ sym p.stands.seals;
-      few = omega (arith, r.few, rises);
+      entries = ap (λ (z : List Entry). called k t z c.actor c.command) r.entries ∙ sym (history_on k t calls i c lt is);
+      made_so_far = r.made_so_far ∙ ap (λ (z : List Call). take i calls ++ z) go
+          ∙ sym (append_assoc (take i calls) (c ∷ []) (made k room t on (drop (i + 1) calls)))
+          ∙ ap (λ (z : List Call). z ++ made k room t on (drop (i + 1) calls)) (sym (front_is calls i c lt is));
+      stop = r.stop ∙ halt;
+      acknowledged = durable_more h (entry_of k (now_after k (start t) h) c.actor c.command)
+          ∙ ap (λ (z : ℕ). synced_number z (entry_of k (now_after k (start t) h) c.actor c.command).reply) r.acknowledged ∙ sym synced;
     }
 
 -- ---- where a run ends
 
 -- at a call that is blocked
-pub blocked_made : (k : Sizes) (room0 : Room) (n0 : Now) (calls : List Call) (i : ℕ) (c : Call) (tree : Rows) (seals unsealed : ℕ) (room : Room) → i < length calls → c ≡ get_or calls i c
-    → Reached k room0 n0 calls i tree seals unsealed room → is_blocked k room (now_at k n0 calls i) c.actor c.command ≡ true → made k room0 n0 calls ≡ take i calls
-blocked_made k room0 n0 calls i c tree seals unsealed room lt is r blocked =
-    let n = now_at k n0 calls i in
-    r.made ∙ ap (λ (z : List Call). take i calls ++ z) (ap (made k room n) (rest_is calls i c lt is)
-    ∙ ap (λ (b : Bool). cond b [] (c ∷ made k (room_after room n c.actor c.command) (entered_by k n (entry_at k n c)) (drop (i + 1) calls))) blocked) ∙ append-nil (take i calls)
+pub blocked_made : (k : Sizes) (room : Room) (t : Rows) (calls : List Call) (i : ℕ) (c : Call) (h : List Entry) (d : ℕ) → i < length calls → c ≡ get_or calls i c
+    → Reached k room t calls i h d → is_blocked k room t h c.actor c.command ≡ true → made k room t [] calls ≡ take i calls
+blocked_made k room t calls i c h d lt is r blocked =
+    r.made_so_far ∙ ap (λ (z : List Call). take i calls ++ z) (ap (made k room t h) (rest_is calls i c lt is)
+    ∙ ap (λ (b : Bool). cond b [] (c ∷ made k room t (called k t h c.actor c.command) (drop (i + 1) calls))) blocked) ∙ append-nil (take i calls)
 
-pub blocked_stop : (k : Sizes) (room0 : Room) (n0 : Now) (calls : List Call) (i : ℕ) (c : Call) (tree : Rows) (seals unsealed : ℕ) (room : Room) → i < length calls → c ≡ get_or calls i c
-    → Reached k room0 n0 calls i tree seals unsealed room → is_blocked k room (now_at k n0 calls i) c.actor c.command ≡ true → stopped k room0 n0 calls ≡ Some c.line
-blocked_stop k room0 n0 calls i c tree seals unsealed room lt is r blocked =
-    let n = now_at k n0 calls i in
-    r.stop ∙ ap (stopped k room n) (rest_is calls i c lt is)
-    ∙ ap (λ (b : Bool). cond b (Some c.line) (stopped k (room_after room n c.actor c.command) (entered_by k n (entry_at k n c)) (drop (i + 1) calls))) blocked
+pub blocked_stop : (k : Sizes) (room : Room) (t : Rows) (calls : List Call) (i : ℕ) (c : Call) (h : List Entry) (d : ℕ) → i < length calls → c ≡ get_or calls i c
+    → Reached k room t calls i h d → is_blocked k room t h c.actor c.command ≡ true → stopped k room t [] calls ≡ Some c.line
+blocked_stop k room t calls i c h d lt is r blocked =
+    r.stop ∙ ap (stopped k room t h) (rest_is calls i c lt is)
+    ∙ ap (λ (b : Bool). cond b (Some c.line) (stopped k room t (called k t h c.actor c.command) (drop (i + 1) calls))) blocked
 
 -- at the end of the calls
-pub all_made : (k : Sizes) (room0 : Room) (n0 : Now) (calls : List Call) (i : ℕ) (tree : Rows) (seals unsealed : ℕ) (room : Room) → length calls ≤ i → Reached k room0 n0 calls i tree seals unsealed room
-    → made k room0 n0 calls ≡ take i calls
-all_made k room0 n0 calls i tree seals unsealed room le r =
-    r.made ∙ ap (λ (z : List Call). take i calls ++ made k room (now_at k n0 calls i) z) (drop_all i calls le) ∙ append-nil (take i calls)
+pub all_made : (k : Sizes) (room : Room) (t : Rows) (calls : List Call) (i : ℕ) (h : List Entry) (d : ℕ) → length calls ≤ i → Reached k room t calls i h d
+    → made k room t [] calls ≡ take i calls
+all_made k room t calls i h d le r =
+    r.made_so_far ∙ ap (λ (z : List Call). take i calls ++ made k room t h z) (drop_all i calls le) ∙ append-nil (take i calls)
 
-pub none_stopped : (k : Sizes) (room0 : Room) (n0 : Now) (calls : List Call) (i : ℕ) (tree : Rows) (seals unsealed : ℕ) (room : Room) → length calls ≤ i → Reached k room0 n0 calls i tree seals unsealed room
-    → stopped k room0 n0 calls ≡ None
-none_stopped k room0 n0 calls i tree seals unsealed room le r = r.stop ∙ ap (stopped k room (now_at k n0 calls i)) (drop_all i calls le)
+pub none_stopped : (k : Sizes) (room : Room) (t : Rows) (calls : List Call) (i : ℕ) (h : List Entry) (d : ℕ) → length calls ≤ i → Reached k room t calls i h d
+    → stopped k room t [] calls ≡ None
+none_stopped k room t calls i h d le r = r.stop ∙ ap (stopped k room t h) (drop_all i calls le)
 
 -- ---- the reply lines
 
@@ -187,14 +246,14 @@ lines_more [] e = append-nil (line_of e)
 lines_more (d ∷ h) e = ap (λ (z : List ℕ). line_of d ++ z) (lines_more h e) ∙ sym (append_assoc (line_of d) (joined (reply_lines h)) (line_of e))
 
 -- the reply lines so far stand first among all
-pub lines_first : (k : Sizes) (room0 : Room) (n0 : Now) (calls : List Call) (i : ℕ) (tree : Rows) (seals unsealed : ℕ) (room : Room) → Reached k room0 n0 calls i tree seals unsealed room
-    → (g : List (List ℕ)) × (reply_lines (history k n0 (made k room0 n0 calls)) ≡ reply_lines (history_to k n0 calls i) ++ g)
-lines_first k room0 n0 calls i tree seals unsealed room r =
-    let n = now_at k n0 calls i in
-    let rest = made k room n (drop i calls) in (
+pub lines_first : (k : Sizes) (room : Room) (t : Rows) (calls : List Call) (i : ℕ) (h : List Entry) (d : ℕ) → Reached k room t calls i h d
+    → (g : List (List ℕ)) × (reply_lines (history k (start t) (made k room t [] calls)) ≡ reply_lines (history_to k (start t) calls i) ++ g)
+lines_first k room t calls i h d r =
+    let n = now_after k (start t) (history_to k (start t) calls i) in
+    let rest = made k room t h (drop i calls) in (
       reply_lines (history k n rest),
-      ap (λ (z : List Call). reply_lines (history k n0 z)) r.made
-          ∙ ap (λ (z : List (ℕ × Command)). reply_lines (hist k n0 z)) (map-append (λ (z : Call). (z.actor, z.command)) (take i calls) rest)
-          ∙ ap reply_lines (hist_append k n0 (asked (take i calls)) (asked rest))
-          ∙ map-append line_of (history_to k n0 calls i) (history k n rest),
+      ap (λ (z : List Call). reply_lines (history k (start t) z)) r.made_so_far
+          ∙ ap (λ (z : List (ℕ × Command)). reply_lines (hist k (start t) z)) (map-append (λ (z : Call). (z.actor, z.command)) (take i calls) rest)
+          ∙ ap reply_lines (hist_append k (start t) (asked (take i calls)) (asked rest))
+          ∙ map-append line_of (history_to k (start t) calls i) (history k n rest),
     )

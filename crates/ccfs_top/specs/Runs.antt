@@ -10,7 +10,7 @@ use Rattle.tree_model.specs.declared.rows.Entry.{Entry}
 use Rattle.tree_model.specs.Rows.{Rows}
 use Rattle.tree_model.specs.Picture.{picture}
 use Rattle.history_model.specs.State.{Now}
-use Rattle.history_model.specs.Histories.{start, entered_by, entry_of, hist, durable, tree_at}
+use Rattle.history_model.specs.Histories.{start, hist, durable, tree_at}
 use Rattle.script_text.specs.declared.scripts.Call.{Call}
 use Rattle.script_text.specs.Scripts.{calls_of, first_unbuilt, is_long}
 use Rattle.script_text.specs.Texts.{reply_line, too_long_line, bad_image_line, bad_line_line, made_line, memory_fault_line, not_built_line}
@@ -21,26 +21,23 @@ use Rattle.gate_journal.specs.Halves.{journal_of}
 use Rattle.block_layout.specs.declared.geometry.Geometry.{Geometry}
 use Rattle.image_check.specs.Kinds.{kind_name}
 use Rattle.tree_cuts.specs.Calls.{Sizes}
-use Rattle.ccfs_top.specs.Stages.{Room, sizes, is_blocked, room_in, room_after}
+use Rattle.front_core.specs.Fronts.{sizes_of}
+use Rattle.ccfs_top.specs.Stages.{Room, is_blocked, called, room_in}
 use Rattle.ccfs_top.specs.Images.{Image, Finding, Holds, Spoilt, Unread}
 
 -- a batch number, some places further
 abbrev pub further : ℕ → ℕ → ℕ
 further k n = (k + n) % 2 ^ 64
 
--- the calls before the first that isn't built, over an image of these sizes with this room
-abbrev pub made : Sizes → Room → Now → List Call → List Call
-made k room n [] = []
-made k room n (c ∷ cs) =
-    cond (is_blocked k room n c.actor c.command) []
-    (c ∷ made k (room_after room n c.actor c.command) (entered_by k n (entry_of k n c.actor c.command)) cs)
+-- the calls before the first that isn't built, behind a history on the tree of opening t, over an image of these sizes with this room
+abbrev pub made : Sizes → Room → Rows → List Entry → List Call → List Call
+made k room t h [] = []
+made k room t h (c ∷ cs) = cond (is_blocked k room t h c.actor c.command) [] (c ∷ made k room t (called k t h c.actor c.command) cs)
 
 -- the line of the first that isn't built
-abbrev pub stopped : Sizes → Room → Now → List Call → Option ℕ
-stopped k room n [] = None
-stopped k room n (c ∷ cs) =
-    cond (is_blocked k room n c.actor c.command) (Some c.line)
-    (stopped k (room_after room n c.actor c.command) (entered_by k n (entry_of k n c.actor c.command)) cs)
+abbrev pub stopped : Sizes → Room → Rows → List Entry → List Call → Option ℕ
+stopped k room t h [] = None
+stopped k room t h (c ∷ cs) = cond (is_blocked k room t h c.actor c.command) (Some c.line) (stopped k room t (called k t h c.actor c.command) cs)
 
 -- the history of these calls
 abbrev pub asked : List Call → List (ℕ × Command)
@@ -58,11 +55,11 @@ reply_lines h = map line_of h
 
 -- an image, by what a session keeps of it
 abbrev pub image_by : ℕ → Rows → Geometry → Half → Image
-image_by number tree geometry half = record { number = number; tree = tree; sizes = sizes geometry; room = room_in (journal_of half) }
+image_by number tree geometry half = record { number = number; tree = tree; sizes = sizes_of geometry; room = room_in (journal_of half) }
 
 -- the calls that are made over an image, their history, and its reply lines
 abbrev pub made_over : Image → List Call → List Call
-made_over image calls = made image.sizes image.room (start image.tree) calls
+made_over image calls = made image.sizes image.room image.tree [] calls
 
 abbrev pub final_history : Image → List Call → List Entry
 final_history image calls = history image.sizes (start image.tree) (made_over image calls)
@@ -72,7 +69,7 @@ replies image calls = reply_lines (final_history image calls)
 
 -- the line of the first call that isn't built
 abbrev pub stopped_over : Image → List Call → Option ℕ
-stopped_over image calls = stopped image.sizes image.room (start image.tree) calls
+stopped_over image calls = stopped image.sizes image.room image.tree [] calls
 
 -- What is to come: a status, the reply lines, what stands behind them, and the number that is answered.
 pub record Expected : Type 0 where

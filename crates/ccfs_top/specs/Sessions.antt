@@ -1,71 +1,70 @@
--- What a session keeps of what its history left, and what its volume shows.
-use Rattle.std.specs.Prelude.{◌≡◌, ◌⊎◌, ℕ, ◌+◌, ◌≤◌, Bool, true, false, List, [], length}
-use Rattle.std.specs.List.{AllByRecursion}
-use Rattle.std.specs.declared.option.Option.TheVariants.{Some}
-use Rattle.std.specs.FinMap.{len}
+-- What a session keeps of its front and its volume, and what a crash leaves on its way.
+use Rattle.std.specs.Prelude.{◌≡◌, ℕ, ◌≤◌, Bool, true, cond, Some, List}
 use Rattle.ccfs_base.specs.declared.commands.Command.{Command}
-use Rattle.ccfs_base.specs.declared.commands.Command.TheVariants.{Mkdir, Create}
 use Rattle.ccfs_base.specs.declared.replies.Reply.{Reply}
-use Rattle.tree_model.specs.declared.picturing.Item.{Item}
-use Rattle.tree_model.specs.Rows.{Rows}
-use Rattle.tree_cuts.specs.Calls.{Sizes, Charged}
-use Rattle.history_model.specs.State.{Now}
-use Rattle.history_model.specs.Histories.{entered_by, entry_of}
 use Rattle.block_layout.specs.declared.geometry.Geometry.{Geometry}
 use Rattle.gate_journal.specs.declared.halves.Half.{Half}
+use Rattle.gate_journal.specs.Halves.{journal_of}
+use Rattle.tree_model.specs.declared.picturing.Item.{Item}
+use Rattle.tree_model.specs.Rows.{Rows}
+use Rattle.tree_model.specs.Picture.{picture}
+use Rattle.history_model.specs.Histories.{start, tree_at}
+use Rattle.image_model.specs.Volumes as volumes
+use Rattle.image_model.specs.Volumes.{volume_of, metadata}
 use Rattle.atomic_volume.specs.Held.{contents_by}
 use Rattle.recovery.specs.Recovering.{picture_shown, shown_for_now}
-use Rattle.pending_rows.specs.Made.{IsMade}
+use Rattle.carried_volumes.specs.Carried.{Carried}
+use Rattle.front_core.specs.Fronts.{Fronted, sizes_of, seals_of, next_entry, next_history}
 use Rattle.ccfs_top.specs.Runs.{further}
-use Rattle.ccfs_top.specs.Stages.{Room, is_blocked, room_after}
+use Rattle.ccfs_top.specs.Stages.{Room, room_in, have_room, used_by_all, sizes_from, all_sizes, is_sync_form}
 
--- an unsealed update of stream 0 that made a row: it weighs 512, and gives up nothing
-pub record IsOfMake (e : ℕ × Charged) : Type 0 where
-  pub stream : e.0 ≡ 0
-  pub weight : e.1.1.weight ≡ 512
-  pub no_blocks : e.1.1.gave_blocks ≡ 0
-  pub no_rows : e.1.1.gave_rows ≡ 0
+-- the tree of the cut after so many seals of a front
+abbrev pub cut_tree : Fronted → ℕ → Rows
+cut_tree front k = tree_at front.sizes (start front.opening) front.entries k
 
--- a session with this tree, this many seals and this many unsealed updates, where the history left n: no actor has left
--- stream 0, and each unsealed update made a row there
-pub record Stands (n : Now) (t : Rows) (sealed waiting : ℕ) : Type 0 where
-  pub tree : t ≡ n.tree
-  pub seals : sealed ≡ n.seals
-  pub choices : n.choices ≡ []
-  pub unsealed : waiting ≡ length n.unsealed
-  pub few : waiting ≤ 512
-  pub of_makes : AllByRecursion IsOfMake n.unsealed
-  pub next : n.next ≡ len n.tree
-  pub made : IsMade n.tree
+-- A session's volume carries the tree of the cut after the batches that were written to it, under the number so many behind that of the
+-- opening. Its metadata is at hand.
+pub record Settled (geometry : Geometry) (bytes at_hand : List ℕ) (front : Fronted) (first written : ℕ) : Type 0 where
+  pub sizes : front.sizes ≡ sizes_of geometry
+  pub carried : Carried (volume_of geometry bytes) (cut_tree front written) front.inodes
+  pub copied : at_hand ≡ metadata (volume_of geometry bytes)
+  pub number : volumes.number (volume_of geometry bytes) ≡ further first written
+  pub few : written ≤ seals_of front
 
--- mkdir (true) or create (false)
-abbrev pub make_command : Bool → List (List ℕ) → Command
-make_command true path = Mkdir path
-make_command false path = Create path
-
--- a call that was answered so where the history left n, over an image of these sizes with this room: it wasn't blocked, the
--- reply is that of its entry, and the session stands as the entry leaves it
-pub record Answered (k : Sizes) (room : Room) (n : Now) (actor : ℕ) (command : Command) (answered : Reply) (t : Rows) (sealed waiting : ℕ) (room' : Room) : Type 0 where
-  pub unblocked : is_blocked k room n actor command ≡ false
-  pub reply : answered ≡ (entry_of k n actor command).reply
-  pub stands : Stands (entered_by k n (entry_of k n actor command)) t sealed waiting
-  pub room_on : room' ≡ room_after room n actor command
+-- the half has used up what the batches that were written took, of a room at the opening, and each had room
+pub record HasUsed (room : Room) (front : Fronted) (written : ℕ) (half : Half) : Type 0 where
+  pub used : room_in (journal_of half) ≡ used_by_all room (sizes_from front.sizes front.opening front.entries 0 written)
+  pub fitted : have_room room (sizes_from front.sizes front.opening front.entries 0 written) ≡ true
 
 -- a volume, by what is known of it, shows this number and this picture
 abbrev pub Shows : Geometry → Half → List ℕ → ℕ → List Item → Type 0
 Shows geometry half bytes number items = picture_shown (contents_by geometry half bytes) ≡ Some (number, items)
 
--- nothing was sealed: the number and the volume are as before
-pub record IsQuiet {V : Type 0} (before now : ℕ) (old new : V) : Type 0 where
-  pub number : now ≡ before
-  pub volume : new ≡ old
+-- an image shows the cut of a front after so many seals
+abbrev pub ShowsCut : Fronted → ℕ → ℕ → List ℕ → Type 0
+ShowsCut front first k c = shown_for_now c ≡ Some (further first k, picture (cut_tree front k))
 
--- one seal more: the number is one further, and nothing is left unsealed
-pub record IsSealed (before now sealed sealed' waiting : ℕ) : Type 0 where
-  pub number : now ≡ further before 1
-  pub seals : sealed' ≡ sealed + 1
-  pub unsealed : waiting ≡ 0
+-- an image on the way shows one of the cuts from this number of seals to that
+pub record ShowsOneOf (front : Fronted) (first least most : ℕ) (c : List ℕ) : Type 0 where
+  pub cut : ℕ
+  pub enough : least ≤ cut
+  pub few : cut ≤ most
+  pub shows : ShowsCut front first cut c
 
--- an image on the way shows the first of these; or the second, where it may
-abbrev pub EitherShown : Bool → ℕ × List Item → ℕ × List Item → List ℕ → Type 0
-EitherShown may first second c = (shown_for_now c ≡ Some first) ⊎ ((may ≡ true) × (shown_for_now c ≡ Some second))
+-- whether all batches of a front's history have room, of a room at the opening
+abbrev pub all_fit : Room → Fronted → Bool
+all_fit room front = have_room room (all_sizes front.sizes front.opening front.entries)
+
+-- how many batches are written once a call was made: all that are sealed, where it is a sync form
+abbrev pub written_by : Fronted → ℕ → Command → ℕ
+written_by front written c = cond (is_sync_form c) (seals_of front) written
+
+-- A call was performed: the front has its entry, and nothing that was sealed waits behind a sync form.
+pub record IsStepped (old : Fronted) (written : ℕ) (actor : ℕ) (c : Command) (reply : Reply) (new : Fronted) (written' : ℕ) : Type 0 where
+  pub reply_is : reply ≡ (next_entry old actor c).reply
+  pub sizes : new.sizes ≡ old.sizes
+  pub limit : new.limit ≡ old.limit
+  pub opening : new.opening ≡ old.opening
+  pub entries : new.entries ≡ next_history old actor c
+  pub handed : new.handed ≡ written'
+  pub written_is : written' ≡ written_by new written c

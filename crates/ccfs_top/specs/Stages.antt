@@ -1,22 +1,17 @@
 -- What isn't built yet: the calls that end a run with `line N not built`.
-use Rattle.std.specs.Prelude.{ℕ, ◌+◌, Bool, true, false, cond, ◌&&◌, not, nat_lt, nat_le, length}
-use Rattle.std.specs.declared.option.Option.{Option}
-use Rattle.std.specs.declared.option.Option.TheVariants.{None, Some}
-use Rattle.stream_cuts.specs.Forced.{is_open}
+use Rattle.std.specs.Prelude.{ℕ, zero, suc, ◌+◌, Bool, true, false, ◌&&◌, ◌||◌, not, nat_lt, nat_le, List, [], ◌∷◌, ◌++◌}
+use Rattle.std.specs.List.{sum_by}
+use Rattle.stream_cuts.specs.Cuts.{batch}
 use Rattle.ccfs_base.specs.declared.commands.Command.{Command}
-use Rattle.ccfs_base.specs.declared.commands.Command.TheVariants.{Mkdir, Create, StreamSync}
-use Rattle.tree_model.specs.declared.rows.Update.{Update}
-use Rattle.tree_cuts.specs.Calls.{Sizes, seals_own}
-use Rattle.history_model.specs.State.{Now, stream_in}
-use Rattle.history_model.specs.Answers.{answer}
+use Rattle.ccfs_base.specs.declared.commands.Command.TheVariants.{StreamSync, Sync, Flush}
+use Rattle.tree_model.specs.Rows.{Rows}
+use Rattle.tree_model.specs.declared.rows.Entry.{Entry}
+use Rattle.tree_cuts.specs.Calls.{Sizes, Charged}
+use Rattle.history_model.specs.Histories.{start, now_after, entry_of, charged_in, seal_count}
 use Rattle.gate_journal.specs.Places.{records_size}
 use Rattle.gate_journal.specs.Journal.{Journal}
-use Rattle.block_layout.specs.declared.geometry.Geometry.{Geometry}
-use Rattle.pending_rows.specs.Waiting.{batch_size}
-
--- The numbers that answers count with: an image of 512 blocks and 32 inodes has 246 data blocks, and there may be 31 rows.
-abbrev pub sizes : Geometry → Sizes
-sizes geometry = record { data_blocks = geometry.data_blocks; inodes = geometry.inodes }
+use Rattle.front_laws.specs.Laws.{update_size}
+use Rattle.front_laws.specs.Kept.{is_answered}
 
 -- ---- room for commits
 
@@ -35,34 +30,49 @@ room_in j = record { gates = j.count; bytes = j.used; barred = j.behind }
 abbrev pub has_room : Room → ℕ → Bool
 has_room room bytes = nat_lt room.gates 4096 && (not room.barred && nat_le (room.bytes + bytes) records_size)
 
--- whether the batch of so many made rows has room
-abbrev pub may_commit : Room → ℕ → Bool
-may_commit room rows = has_room room (batch_size rows)
-
 -- the room once that batch is committed
-abbrev pub with_rows : Room → ℕ → Room
-with_rows room rows = record { gates = room.gates + 1; bytes = room.bytes + batch_size rows; barred = room.barred }
+abbrev pub used_by : Room → ℕ → Room
+used_by room bytes = record { gates = room.gates + 1; bytes = room.bytes + bytes; barred = room.barred }
 
--- whether a call commits: a sync where something is unsealed
-abbrev pub commits : Now → ℕ → Command → Bool
-commits n actor StreamSync = is_open n.unsealed (stream_in n.choices actor)
-commits n actor c = false
+-- the same for batches of these sizes, one behind the other
+abbrev pub have_room : Room → List ℕ → Bool
+have_room room [] = true
+have_room room (bytes ∷ more) = has_room room bytes && have_room (used_by room bytes) more
 
--- the room after a call: all that is unsealed is in stream 0
-abbrev pub room_after : Room → Now → ℕ → Command → Room
-room_after room n actor c = cond (commits n actor c) (with_rows room (length n.unsealed)) room
+abbrev pub used_by_all : Room → List ℕ → Room
+used_by_all room [] = room
+used_by_all room (bytes ∷ more) = used_by_all (used_by room bytes) more
+
+-- ---- the sizes of batches
+
+-- how many bytes the batch of these updates has: a header of 16 bytes, 20 for the batch number, and the records of the updates. That of
+-- two made rows has 376
+abbrev pub batch_bytes : List (ℕ × Charged) → ℕ
+batch_bytes us = 36 + sum_by (λ e. update_size e.1.0) us
+
+-- the sizes of so many batches of a history, from the one behind k seals on
+abbrev pub sizes_from : Sizes → Rows → List Entry → ℕ → ℕ → List ℕ
+sizes_from s t h k zero = []
+sizes_from s t h k (suc more) = batch_bytes (batch (charged_in s (start t) h) k) ∷ sizes_from s t h (suc k) more
+
+-- those of all its batches
+abbrev pub all_sizes : Sizes → Rows → List Entry → List ℕ
+all_sizes s t h = sizes_from s t h 0 (seal_count s (start t) h)
 
 -- ---- what isn't built
 
--- whether an accepted update would seal its own stream first: the 513th row that is made since the last sync
-abbrev pub forces_a_seal : Sizes → Now → ℕ → Option Update → Bool
-forces_a_seal k n s None = false
-forces_a_seal k n s (Some u) = seals_own k n.tree n.unsealed s u && is_open n.unsealed s
+-- the commands that make durable what is sealed
+abbrev pub is_sync_form : Command → Bool
+is_sync_form StreamSync = true
+is_sync_form Sync = true
+is_sync_form Flush = true
+is_sync_form c = false
 
--- whether a call isn't built, over an image of these sizes with this room: an update that would seal first, a sync whose batch has
--- no room, and every other command
-abbrev pub is_blocked : Sizes → Room → Now → ℕ → Command → Bool
-is_blocked k room n actor (Mkdir path) = forces_a_seal k n (stream_in n.choices actor) (answer k n actor (Mkdir path)).1
-is_blocked k room n actor (Create path) = forces_a_seal k n (stream_in n.choices actor) (answer k n actor (Create path)).1
-is_blocked k room n actor StreamSync = is_open n.unsealed (stream_in n.choices actor) && not (may_commit room (length n.unsealed))
-is_blocked k room n actor c = true
+-- the history with one more call
+abbrev pub called : Sizes → Rows → List Entry → ℕ → Command → List Entry
+called s t h actor c = h ++ entry_of s (now_after s (start t) h) actor c ∷ []
+
+-- whether a call isn't built behind a history on the tree of opening t, over an image of these sizes with this room at its opening: a
+-- command that isn't built, or one that makes batches durable of which one has no room
+abbrev pub is_blocked : Sizes → Room → Rows → List Entry → ℕ → Command → Bool
+is_blocked s room t h actor c = not (is_answered c) || (is_sync_form c && not (have_room room (all_sizes s t (called s t h actor c))))

@@ -1,5 +1,5 @@
 //! A run over a disk, from its opening to the tree text.
-ghost use Rattle.std.specs.Prelude.{◌≡◌, ◌⊎◌, ◌≤◌, ◌++◌, ℕ, List, true, false, Some, IfOk, IfErr, OnOk, OnErr, IsErrOf, length};
+ghost use Rattle.std.specs.Prelude.{◌≡◌, ◌⊎◌, ◌<◌, ◌≤◌, ◌++◌, ℕ, List, true, false, Some, IfOk, IfErr, OnOk, OnErr, IsErrOf, length};
 ghost use Rattle.fault_counts.specs.Counts.{Rose};
 ghost use Rattle.tree_model.specs.declared.picturing.Item.{Item};
 ghost use Rattle.tree_model.specs.Picture.{picture};
@@ -8,7 +8,8 @@ ghost use Rattle.gate_journal.specs.Halves.{journal_of};
 ghost use Rattle.gate_journal.specs.Runs.{Quiet};
 ghost use Rattle.atomic_volume.specs.Opening.{is_unbuilt};
 ghost use Rattle.recovery.specs.Bad.{Says};
-ghost use Rattle.image_model.specs.Volumes.{volume_of};
+ghost use Rattle.std.specs.List.{All};
+ghost use Rattle.ccfs_base.specs.Fits.{fits_command};
 ghost use Rattle.image_model.specs.Checks.{is_last};
 ghost use Rattle.recovery.specs.Recovering.{shown_for_now};
 ghost use Rattle.recovery.specs.declared.fault.OpenFault.TheVariants as open_fault;
@@ -16,9 +17,9 @@ ghost use Rattle.ccfs_top.specs.Ends.{IsPart, joined};
 ghost use Rattle.ccfs_top.specs.Found.{IsFound};
 ghost use Rattle.ccfs_top.specs.Images.{Image, IsImage, Finding, Finds, Holds};
 ghost use Rattle.ccfs_top.specs.Left.{Kept, Halts, Done};
-ghost use Rattle.pending_rows.specs.Waiting.{Waits};
+ghost use Rattle.front_core.specs.Fronts.{new_front};
 ghost use Rattle.ccfs_top.specs.Runs.{image_by, ran, over};
-ghost use Rattle.ccfs_top.specs.Sessions.{Shows};
+ghost use Rattle.ccfs_top.specs.Sessions.{Settled};
 ghost use Rattle.ccfs_top.specs.Stops.{IsFaultStop};
 
 use crate::open::open;
@@ -98,14 +99,15 @@ fn run_session<D: Disk, K: Sink>(
     calls: &[Call],
     out: &mut K,
 ) -> Result<Finished<D>, Returned<Stop, D>>
-    requires waits { Waits (volume_of session.volume.geometry session.volume.volume.items) session.pending session.tree session.unsealed }
-    requires no_seals { session.seals ≡ 0 }
-    requires none_unsealed { session.unsealed ≡ 0 }
+    requires actors { All (λ call. call.actor < 64) calls.now }
+    requires fits { All (λ call. fits_command call.command ≡ true) calls.now }
+    requires new { session.front ≡ new_front session.volume.geometry 1048576 session.front.opening session.front.inodes }
+    requires none_written { session.written ≡ 0 }
+    requires settled { Settled session.volume.geometry session.volume.volume.items session.metadata session.front session.first session.written }
     requires working { session.volume.failed ≡ false }
-    requires last { is_last (journal_of session.volume.half).last session.number ≡ true }
-    requires shown { Shows session.volume.geometry session.volume.half session.volume.volume.items session.number (picture session.tree) }
-    ensures done { D.tells → IfOk result (λ done. Done D.Disk session.volume.disk done.disk calls.now (image_by session.number session.tree session.volume.geometry session.volume.half) done.batches K.tells (K.held out.old) (K.held out.new)) }
-    ensures halts { D.tells → IfErr result (λ refused. Halts D.Disk session.volume.disk refused.kept calls.now (Holds (image_by session.number session.tree session.volume.geometry session.volume.half)) (ran (image_by session.number session.tree session.volume.geometry session.volume.half) calls.now) refused.fault K.tells (K.held out.old) (K.held out.new)) }
+    requires last { is_last (journal_of session.volume.half).last session.first ≡ true }
+    ensures done { D.tells → IfOk result (λ done. Done D.Disk session.volume.disk done.disk calls.now (image_by session.first session.front.opening session.volume.geometry session.volume.half) done.batches K.tells (K.held out.old) (K.held out.new)) }
+    ensures halts { D.tells → IfErr result (λ refused. Halts D.Disk session.volume.disk refused.kept calls.now (Holds (image_by session.first session.front.opening session.volume.geometry session.volume.half)) (ran (image_by session.first session.front.opening session.volume.geometry session.volume.half) calls.now) refused.fault K.tells (K.held out.old) (K.held out.new)) }
     ensures sink_cause { IfErr result (λ refused. refused.fault ≡ Stop.Sink → Rose (K.faults out.old) (K.faults out.new)) }
     ensures kinds { IfErr result (λ refused. (refused.fault ≡ Stop.Usage → ⊥) × (refused.fault ≡ Stop.Long → ⊥) × (refused.fault ≡ Stop.Source → ⊥)) }
     ensures sink_later { K.faults out.old ≤ K.faults out.new }
@@ -135,6 +137,8 @@ pub fn run_disk<D: Disk, K: Sink>(
     calls: &[Call],
     out: &mut K,
 ) -> Result<Finished<D>, Returned<Stop, D>>
+    requires actors { All (λ call. call.actor < 64) calls.now }
+    requires fits { All (λ call. fits_command call.command ≡ true) calls.now }
     ensures done { D.tells → IfOk result (λ done. (found : List ℕ) × IsFound (D.may_leave disk) (D.in_doubt disk) (D.seen disk) found
         × ((image : Image) × IsImage image found × Done D.Disk disk done.disk calls.now image done.batches K.tells (K.held out.old) (K.held out.new))) }
     ensures halts { D.tells → IfErr result (λ refused. (found : List ℕ) × IsFound (D.may_leave disk) (D.in_doubt disk) (D.seen disk) found

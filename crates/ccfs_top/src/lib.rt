@@ -26,6 +26,8 @@ pub use top::shell;
 #[cfg(test)]
 mod crash_tests;
 #[cfg(test)]
+mod stream_tests;
+#[cfg(test)]
 mod tests;
 #[cfg(test)]
 mod trials;

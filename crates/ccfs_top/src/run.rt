@@ -8,15 +8,15 @@ ghost use Rattle.history_model.specs.Histories.{start, durable, tree_at};
 ghost use Rattle.script_text.specs.Texts.{reply_line};
 ghost use Rattle.gate_journal.specs.Halves.{journal_of};
 ghost use Rattle.gate_journal.specs.Runs.{LeavesBy};
-ghost use Rattle.image_model.specs.Volumes.{volume_of};
+ghost use Rattle.std.specs.List.{All};
+ghost use Rattle.ccfs_base.specs.Fits.{fits_command};
 ghost use Rattle.image_model.specs.Checks.{is_last};
 ghost use Rattle.ccfs_top.specs.Ends.{IsPart, joined};
 ghost use Rattle.ccfs_top.specs.Images.{Holds};
 ghost use Rattle.ccfs_top.specs.Left.{Kept, Halts};
-ghost use Rattle.pending_rows.specs.Waiting.{Waits};
 ghost use Rattle.ccfs_top.specs.Runs.{further, image_by, final_history, replies, stopped_over, ran};
-ghost use Rattle.ccfs_top.specs.Sessions.{Stands, Answered, Shows, IsQuiet, IsSealed, EitherShown};
-ghost use Rattle.ccfs_top.specs.Stages.{sizes, is_blocked, commits, room_in};
+ghost use Rattle.ccfs_top.specs.Sessions.{Settled, Shows};
+ghost use Rattle.front_core.specs.Fronts.{new_front, sizes_of};
 ghost use Rattle.ccfs_top.specs.Stops.{IsFaultStop};
 
 use crate::session::{Session, StepFault};
@@ -65,20 +65,21 @@ pub fn perform_all<D: Disk, K: Sink>(
     calls: &[Call],
     out: &mut K,
 ) -> Result<(), Stop>
-    requires waits { Waits (volume_of session.old.volume.geometry session.old.volume.volume.items) session.old.pending session.old.tree session.old.unsealed }
-    requires no_seals { session.old.seals ≡ 0 }
-    requires none_unsealed { session.old.unsealed ≡ 0 }
+    requires actors { All (λ call. call.actor < 64) calls.now }
+    requires fits { All (λ call. fits_command call.command ≡ true) calls.now }
+    requires new { session.old.front ≡ new_front session.old.volume.geometry 1048576 session.old.front.opening session.old.front.inodes }
+    requires none_written { session.old.written ≡ 0 }
+    requires settled { Settled session.old.volume.geometry session.old.volume.volume.items session.old.metadata session.old.front session.old.first session.old.written }
     requires working { session.old.volume.failed ≡ false }
-    requires last { is_last (journal_of session.old.volume.half).last session.old.number ≡ true }
-    requires shown { Shows session.old.volume.geometry session.old.volume.half session.old.volume.volume.items session.old.number (picture session.old.tree) }
-    ensures done { OnOk result (stopped_over (image_by session.old.number session.old.tree session.old.volume.geometry session.old.volume.half) calls.now ≡ None) }
-    ensures text { K.tells → OnOk result (K.held out.new ≡ K.held out.old ++ joined (replies (image_by session.old.number session.old.tree session.old.volume.geometry session.old.volume.half) calls.now)) }
+    requires last { is_last (journal_of session.old.volume.half).last session.old.first ≡ true }
+    ensures done { OnOk result (stopped_over (image_by session.old.first session.old.front.opening session.old.volume.geometry session.old.volume.half) calls.now ≡ None) }
+    ensures text { K.tells → OnOk result (K.held out.new ≡ K.held out.old ++ joined (replies (image_by session.old.first session.old.front.opening session.old.volume.geometry session.old.volume.half) calls.now)) }
     ensures shows { OnOk result (Shows session.new.volume.geometry session.new.volume.half session.new.volume.volume.items
-        (further session.old.number (durable (final_history (image_by session.old.number session.old.tree session.old.volume.geometry session.old.volume.half) calls.now)))
-        (picture (tree_at (sizes session.old.volume.geometry) (start session.old.tree) (final_history (image_by session.old.number session.old.tree session.old.volume.geometry session.old.volume.half) calls.now) (durable (final_history (image_by session.old.number session.old.tree session.old.volume.geometry session.old.volume.half) calls.now))))) }
+        (further session.old.first (durable (final_history (image_by session.old.first session.old.front.opening session.old.volume.geometry session.old.volume.half) calls.now)))
+        (picture (tree_at (sizes_of session.old.volume.geometry) (start session.old.front.opening) (final_history (image_by session.old.first session.old.front.opening session.old.volume.geometry session.old.volume.half) calls.now) (durable (final_history (image_by session.old.first session.old.front.opening session.old.volume.geometry session.old.volume.half) calls.now))))) }
     ensures working { OnOk result (session.new.volume.failed ≡ false) }
-    ensures kept { D.tells → OnOk result (Kept D.Disk session.old.volume.disk session.new.volume.disk (image_by session.old.number session.old.tree session.old.volume.geometry session.old.volume.half) calls.now (length (replies (image_by session.old.number session.old.tree session.old.volume.geometry session.old.volume.half) calls.now))) }
-    ensures halts { D.tells → IfErr result (λ stop. Halts D.Disk session.old.volume.disk session.new.volume.disk calls.now (Holds (image_by session.old.number session.old.tree session.old.volume.geometry session.old.volume.half)) (ran (image_by session.old.number session.old.tree session.old.volume.geometry session.old.volume.half) calls.now) stop K.tells (K.held out.old) (K.held out.new)) }
+    ensures kept { D.tells → OnOk result (Kept D.Disk session.old.volume.disk session.new.volume.disk (image_by session.old.first session.old.front.opening session.old.volume.geometry session.old.volume.half) calls.now (length (replies (image_by session.old.first session.old.front.opening session.old.volume.geometry session.old.volume.half) calls.now))) }
+    ensures halts { D.tells → IfErr result (λ stop. Halts D.Disk session.old.volume.disk session.new.volume.disk calls.now (Holds (image_by session.old.first session.old.front.opening session.old.volume.geometry session.old.volume.half)) (ran (image_by session.old.first session.old.front.opening session.old.volume.geometry session.old.volume.half) calls.now) stop K.tells (K.held out.old) (K.held out.new)) }
     ensures kinds { IfErr result (λ stop. IsFaultStop stop ⊎ ((line : ℕ) × (stop ≡ Stop.NotBuilt line))) }
     ensures later { D.faults session.old.volume.disk ≤ D.faults session.new.volume.disk }
     ensures sink_later { K.faults out.old ≤ K.faults out.new }
@@ -86,7 +87,7 @@ pub fn perform_all<D: Disk, K: Sink>(
     ensures device { IsErrOf result Stop.Disk → Rose (D.faults session.old.volume.disk) (D.faults session.new.volume.disk) }
 {
     for call in calls {
-        let reply = match session.step(alloc, &call.command) {
+        let reply = match session.step(alloc, call.actor, &call.command) {
             Ok(reply) => reply,
             Err(fault) => return Err(stop_of_step(fault, call.line)),
         };

@@ -1,5 +1,7 @@
 //! The script, read and parsed whole.
 ghost use Rattle.std.specs.Prelude.{◌≡◌, ◌⊎◌, ◌≤◌, ◌<◌, ◌++◌, ℕ, List, true, false, length, None, Ok, Err, IfOk, IsErrOf};
+ghost use Rattle.std.specs.List.{All};
+ghost use Rattle.ccfs_base.specs.Fits.{fits_command};
 ghost use Rattle.fault_counts.specs.Counts.{Rose};
 ghost use Rattle.script_text.specs.Scripts.{calls_of, first_unbuilt, is_long, IsFirstUnbuilt};
 
@@ -57,6 +59,8 @@ fn read_script<S: Source>(alloc: Global, script: &mut S) -> Result<Vec<u8>, Scri
 /// The calls of the script that the source gives.
 pub fn read_calls<S: Source>(alloc: Global, script: &mut S) -> Result<Vec<Call>, ScriptEnd>
     ensures ok { S.tells → IfOk result (λ calls. (is_long (S.left script.old) ≡ false) × (calls_of (S.left script.old) ≡ Ok calls.items) × (first_unbuilt calls.items ≡ None)) }
+    ensures actors { IfOk result (λ calls. All (λ call. call.actor < 64) calls.items) }
+    ensures fits { IfOk result (λ calls. All (λ call. fits_command call.command ≡ true) calls.items) }
     ensures long { S.tells → IsErrOf result ScriptEnd.Long → is_long (S.left script.old) ≡ true }
     ensures bad_line { S.tells → (line : ℕ) → IsErrOf result (ScriptEnd.BadLine line) → (is_long (S.left script.old) ≡ false) × (calls_of (S.left script.old) ≡ Err line) }
     ensures not_built { S.tells → (line : ℕ) → IsErrOf result (ScriptEnd.NotBuilt line) → (is_long (S.left script.old) ≡ false) × IsFirstUnbuilt (S.left script.old) line }

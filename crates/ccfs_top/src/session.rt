@@ -1,36 +1,25 @@
-//! A file system in use: the tree, the volume that holds what is durable, and the rows that wait to be put on it.
-ghost use Rattle.std.specs.Prelude.{Bool, ◌≡◌, ◌≢◌, ◌≤◌, ◌<◌, ◌+◌, ◌-◌, ◌^◌, ◌++◌, ℕ, List, true, false, IsTrue, length, IfOk, IfErr, OnOk, IsErrOf, IsErr, Ok, Err, None, Some};
-ghost use Rattle.std.specs.FinMap.{len};
+//! A file system in use: its front, and the volume that holds what is durable.
+ghost use Rattle.std.specs.Prelude.{◌≡◌, ◌≤◌, ◌<◌, ◌+◌, true, false, IsTrue, IfOk, OnOk, IsErrOf};
 ghost use Rattle.fault_counts.specs.Counts.{Rose};
-ghost use Rattle.tree_model.specs.Updates.{apply};
-ghost use Rattle.tree_model.specs.Updates.{Fits};
-ghost use Rattle.tree_model.specs.declared.rows.Update.TheVariants.{Make};
-ghost use Rattle.tree_model.specs.declared.picturing.Item.{Item};
-ghost use Rattle.tree_model.specs.Picture.{picture};
-ghost use Rattle.history_model.specs.Answers.{make};
-ghost use Rattle.history_model.specs.State.{Now};
-ghost use Rattle.image_model.specs.Volumes.{Volume as ImageVolume, volume_of, is_used};
-ghost use Rattle.image_model.specs.Checks.{is_last};
+ghost use Rattle.ccfs_base.specs.Fits.{fits_command};
+ghost use Rattle.stream_cuts.specs.Cuts.{batch};
+ghost use Rattle.history_model.specs.Histories.{start, charged_in};
 ghost use Rattle.gate_journal.specs.Halves.{journal_of};
 ghost use Rattle.gate_journal.specs.Runs.{LeavesBy};
-ghost use Rattle.pending_rows.specs.Made.{IsMade};
-ghost use Rattle.pending_rows.specs.Waiting.{with_ranges, Waits};
+ghost use Rattle.image_model.specs.Checks.{is_last};
+ghost use Rattle.front_laws.specs.Batches.{batch_at};
+ghost use Rattle.front_core.specs.Fronts.{next_history, seals_of};
 ghost use Rattle.ccfs_top.specs.Runs.{further};
-ghost use Rattle.ccfs_top.specs.Stages.{sizes, is_blocked, may_commit, with_rows, commits, room_in};
-ghost use Rattle.ccfs_top.specs.Sessions.{Stands, Answered, Shows, IsQuiet, IsSealed, EitherShown, make_command};
-ghost use Rattle.ccfs_base.specs.Names.{is_name};
-ghost use Rattle.ccfs_base.specs.declared.commands.Command.TheVariants as command;
-ghost use Rattle.ccfs_base.specs.declared.replies.Reply.TheVariants as reply;
+ghost use Rattle.ccfs_top.specs.Stages.{Room, room_in, has_room, used_by, batch_bytes, is_blocked, is_sync_form};
+ghost use Rattle.ccfs_top.specs.Sessions.{Settled, HasUsed, ShowsOneOf, IsStepped, all_fit};
 
 use atomic_volume::{Volume, VolumeFault};
-use ccfs_base::{Command, Name, Path, Refusal, Reply};
+use batch_ranges::Metadata;
+use ccfs_base::{Command, Reply};
 use disk_model::Disk;
-use pending_rows::PendingRows;
+use file_bodies::Sealed;
+use front_core::{ActFault, Front};
 use std::alloc::Global;
-use tree_model::{Tree, Update};
-
-/// How many rows may be made between two syncs: what they weigh fills a transaction.
-const MAX_UNSEALED: u32 = 512;
 
 /// Why a call wasn't performed.
 #[derive(Clone, Copy, Debug, PartialEq, Eq, Drop)]
@@ -47,118 +36,51 @@ pub enum StepFault {
 pub struct Session<D: Disk> {
     /// The volume that holds what is durable, on the disk.
     pub volume: Volume<D>,
-    /// The tree of all that was done. It may have one row fewer than there are inodes, since one inode is set aside.
-    pub tree: Tree,
-    /// The rows that were made since the last seal, and the inodes of all.
-    pub pending: PendingRows,
-    /// The number of the last batch in the volume.
-    pub number: u64,
-    /// The number of seals since the session was opened.
-    pub seals: u64,
-    /// The number of updates since the last seal.
-    pub unsealed: u32,
+    /// The metadata of the volume.
+    pub metadata: Metadata,
+    /// What was done, and what of it isn't durable.
+    pub front: Front,
+    /// The number of the last batch in the volume when it was opened.
+    pub first: u64,
+    /// How many batches were written since then.
+    pub written: u64,
 }
 
-/// A row that is to be made: where, and under which inode.
-#[derive(Clone, Copy, Drop)]
-struct NewRow {
-    dir: u32,
-    name: Name,
-    inode: u32,
-}
-
-/// What mkdir or create asks for: the row, or why it is refused.
-fn new_row(tree: &Tree, pending: &PendingRows, path: &Path) -> Result<NewRow, Refusal>
-    requires { IsMade tree.now }
-    ensures update { (v : ImageVolume) (rows : ℕ) (n : Now) (seals : ℕ) (is_dir : Bool) → Waits v pending.now tree.now rows → Stands n tree.now seals rows
-        → IfOk result (λ row. make (sizes pending.now.geometry) n 0 is_dir path.now ≡ (reply.Done, Some (Make row.dir row.name (len tree.now) is_dir))) }
-    ensures fits { (v : ImageVolume) (rows : ℕ) (is_dir : Bool) → Waits v pending.now tree.now rows → IfOk result (λ row. Fits tree.now (Make row.dir row.name (len tree.now) is_dir)) }
-    ensures free { (v : ImageVolume) (rows : ℕ) → Waits v pending.now tree.now rows → IfOk result (λ row. (2 ≤ row.inode) × (is_used (with_ranges v pending.now.ranges) row.inode ≡ false)) }
-    ensures lies { IfOk result (λ row. row.inode < pending.now.geometry.inodes) }
-    ensures room { (v : ImageVolume) (rows : ℕ) → Waits v pending.now tree.now rows → IfOk result (λ row. len tree.now < pending.now.geometry.inodes - 1) }
-    ensures named { IfOk result (λ row. is_name row.name ≡ true) }
-    ensures refused { (v : ImageVolume) (rows : ℕ) (n : Now) (seals : ℕ) (is_dir : Bool) → Waits v pending.now tree.now rows → Stands n tree.now seals rows
-        → IfErr result (λ cause. make (sizes pending.now.geometry) n 0 is_dir path.now ≡ (reply.Refused cause, None)) }
+/// Whether a command makes durable what is sealed.
+fn is_sync_form(command: &Command) -> bool
+    ensures { result ≡ is_sync_form command.now }
 {
-    if path.is_root() {
-        return Err(Refusal::Exists);
-    }
-    let (dir, name) = match tree.resolve_parent(path) {
-        Ok(found) => found,
-        Err(cause) => return Err(cause),
-    };
-    if tree.entry(dir, &name).is_some() {
-        return Err(Refusal::Exists);
-    }
-    match pending.free_inode() {
-        Some(inode) => Ok(NewRow { dir, name, inode }),
-        None => Err(Refusal::NoInode),
-    }
+    matches!(
+        command,
+        Command::StreamSync | Command::Sync | Command::Flush
+    )
 }
 
 impl<D: Disk> Session<D> {
-    /// Performs mkdir or create.
-    fn make(&mut self, alloc: Global, path: &Path, is_dir: bool) -> Result<Reply, StepFault>
-        requires waits { Waits (volume_of self.old.volume.geometry self.old.volume.volume.items) self.old.pending self.old.tree self.old.unsealed }
-        ensures waits { OnOk result (Waits (volume_of self.new.volume.geometry self.new.volume.volume.items) self.new.pending self.new.tree self.new.unsealed) }
-        ensures ok { (n : Now) (actor : ℕ) → Stands n self.old.tree self.old.seals self.old.unsealed → IfOk result (λ answer. Answered (sizes self.old.volume.geometry) (room_in (journal_of self.old.volume.half)) n actor (make_command is_dir path.now) answer self.new.tree self.new.seals self.new.unsealed (room_in (journal_of self.new.volume.half))) }
-        ensures blocked { (n : Now) (actor : ℕ) → Stands n self.old.tree self.old.seals self.old.unsealed → IsErrOf result StepFault.NotBuilt → is_blocked (sizes self.old.volume.geometry) (room_in (journal_of self.old.volume.half)) n actor (make_command is_dir path.now) ≡ true }
-        ensures volume { self.new.volume ≡ self.old.volume }
-        ensures number { self.new.number ≡ self.old.number }
-        ensures seals { self.new.seals ≡ self.old.seals }
-        ensures no_device { IsErrOf result StepFault.Device → ⊥ }
-    {
-        let row = match new_row(&self.tree, &self.pending, path) {
-            Ok(row) => row,
-            Err(cause) => return Ok(Reply::Refused(cause)),
-        };
-        if self.unsealed >= MAX_UNSEALED {
-            return Err(StepFault::NotBuilt);
-        }
-        let update = Update::Make {
-            dir: row.dir,
-            name: row.name,
-            id: self.tree.len() as u32,
-            is_dir,
-        };
-        let Ok(()) = self
-            .pending
-            .make(alloc, row.inode, row.dir, &row.name, is_dir)
-        else {
-            return Err(StepFault::NoMemory);
-        };
-        match self.tree.apply(&update) {
-            Ok(()) => {
-                self.unsealed += 1;
-                Ok(Reply::Done)
-            }
-            Err(_) => Err(StepFault::NoMemory),
-        }
-    }
-
-    /// Commits what waits, under the number behind the last. Where that fails, nothing may be committed any more.
-    fn commit(&mut self, alloc: Global) -> Result<(), StepFault>
-        requires waits { Waits (volume_of self.old.volume.geometry self.old.volume.volume.items) self.old.pending self.old.tree self.old.unsealed }
+    /// Writes the batch that takes the volume to its next cut. Where that fails, nothing may be written any more.
+    fn commit(&mut self, alloc: Global, sealed: &Sealed) -> Result<(), StepFault>
+        requires settled { Settled self.old.volume.geometry self.old.volume.volume.items self.old.metadata self.old.front self.old.first self.old.written }
+        requires next { sealed.now ≡ batch_at self.old.front.sizes self.old.front.opening self.old.front.inodes self.old.front.entries self.old.written }
+        requires more { self.old.written < seals_of self.old.front }
         requires working { self.old.volume.failed ≡ false }
-        requires last { is_last (journal_of self.old.volume.half).last self.old.number ≡ true }
-        ensures tree { self.new.tree ≡ self.old.tree }
-        ensures seals { self.new.seals ≡ self.old.seals }
-        ensures unsealed { self.new.unsealed ≡ self.old.unsealed }
-        ensures waits { OnOk result (Waits (volume_of self.new.volume.geometry self.new.volume.volume.items) self.new.pending self.new.tree 0) }
-        ensures number { OnOk result (self.new.number ≡ further self.old.number 1) }
-        ensures accepted { OnOk result (may_commit (room_in (journal_of self.old.volume.half)) self.old.unsealed ≡ true) }
-        ensures blocked { IsErrOf result StepFault.NotBuilt → may_commit (room_in (journal_of self.old.volume.half)) self.old.unsealed ≡ false }
-        ensures room { OnOk result (room_in (journal_of self.new.volume.half) ≡ with_rows (room_in (journal_of self.old.volume.half)) self.old.unsealed) }
-        ensures shows { OnOk result (Shows self.new.volume.geometry self.new.volume.half self.new.volume.volume.items self.new.number (picture self.old.tree)) }
-        ensures last { OnOk result (is_last (journal_of self.new.volume.half).last self.new.number ≡ true) }
+        requires last { is_last (journal_of self.old.volume.half).last (further self.old.first self.old.written) ≡ true }
+        ensures front { self.new.front ≡ self.old.front }
+        ensures first { self.new.first ≡ self.old.first }
+        ensures written { OnOk result (self.new.written ≡ self.old.written + 1) }
+        ensures settled { OnOk result (Settled self.new.volume.geometry self.new.volume.volume.items self.new.metadata self.new.front self.new.first self.new.written) }
+        ensures accepted { OnOk result (has_room (room_in (journal_of self.old.volume.half)) (batch_bytes (batch (charged_in self.old.front.sizes (start self.old.front.opening) self.old.front.entries) self.old.written)) ≡ true) }
+        ensures blocked { IsErrOf result StepFault.NotBuilt → has_room (room_in (journal_of self.old.volume.half)) (batch_bytes (batch (charged_in self.old.front.sizes (start self.old.front.opening) self.old.front.entries) self.old.written)) ≡ false }
+        ensures room { OnOk result (room_in (journal_of self.new.volume.half) ≡ used_by (room_in (journal_of self.old.volume.half)) (batch_bytes (batch (charged_in self.old.front.sizes (start self.old.front.opening) self.old.front.entries) self.old.written))) }
+        ensures last { OnOk result (is_last (journal_of self.new.volume.half).last (further self.new.first self.new.written) ≡ true) }
         ensures working { OnOk result (self.new.volume.failed ≡ false) }
         ensures geometry { self.new.volume.geometry ≡ self.old.volume.geometry }
-        ensures moments { D.tells → (items : List Item) → Shows self.old.volume.geometry self.old.volume.half self.old.volume.volume.items self.old.number items → LeavesBy D.Disk self.old.volume.disk self.new.volume.disk (EitherShown true (self.old.number, items) (further self.old.number 1, picture self.old.tree)) }
+        ensures moments { D.tells → LeavesBy D.Disk self.old.volume.disk self.new.volume.disk (ShowsOneOf self.old.front self.old.first self.old.written (self.old.written + 1)) }
         ensures later { D.faults self.old.volume.disk ≤ D.faults self.new.volume.disk }
         ensures device { IsErrOf result StepFault.Device → Rose (D.faults self.old.volume.disk) (D.faults self.new.volume.disk) }
     {
-        let number = self.number.wrapping_add(1);
-        let Ok(batch) = self.pending.batch(alloc, number) else {
+        self.front.is_kept();
+        let number = self.first.wrapping_add(self.written).wrapping_add(1);
+        let Ok(batch) = self.metadata.batch(alloc, number, &sealed.recs) else {
             return Err(StepFault::NoMemory);
         };
         if !self.volume.accepts(&batch) {
@@ -166,7 +88,7 @@ impl<D: Disk> Session<D> {
         }
         match self.volume.commit(&batch) {
             Ok(()) => {
-                self.number = number;
+                self.written += 1;
                 Ok(())
             }
             Err(VolumeFault::Device) => Err(StepFault::Device),
@@ -174,64 +96,70 @@ impl<D: Disk> Session<D> {
         }
     }
 
-    /// Makes durable what is unsealed, if anything is.
-    fn sync(&mut self, alloc: Global) -> Result<Reply, StepFault>
-        requires waits { Waits (volume_of self.old.volume.geometry self.old.volume.volume.items) self.old.pending self.old.tree self.old.unsealed }
+    /// Writes all batches that were sealed, in the order of their numbers. Where that fails, nothing may be written any more.
+    fn write_all(&mut self, alloc: Global) -> Result<(), StepFault>
+        requires settled { Settled self.old.volume.geometry self.old.volume.volume.items self.old.metadata self.old.front self.old.first self.old.written }
+        requires handed { self.old.front.handed ≡ self.old.written }
         requires working { self.old.volume.failed ≡ false }
-        requires last { is_last (journal_of self.old.volume.half).last self.old.number ≡ true }
-        requires room { self.old.seals < 2 ^ 64 - 1 }
-        ensures waits { OnOk result (Waits (volume_of self.new.volume.geometry self.new.volume.volume.items) self.new.pending self.new.tree self.new.unsealed) }
-        ensures ok { (n : Now) (actor : ℕ) → Stands n self.old.tree self.old.seals self.old.unsealed → IfOk result (λ answer. Answered (sizes self.old.volume.geometry) (room_in (journal_of self.old.volume.half)) n actor command.StreamSync answer self.new.tree self.new.seals self.new.unsealed (room_in (journal_of self.new.volume.half))) }
-        ensures blocked { (n : Now) (actor : ℕ) → Stands n self.old.tree self.old.seals self.old.unsealed → IsErrOf result StepFault.NotBuilt → is_blocked (sizes self.old.volume.geometry) (room_in (journal_of self.old.volume.half)) n actor command.StreamSync ≡ true }
-        ensures quiet { OnOk result (self.new.seals ≡ self.old.seals → IsQuiet self.old.number self.new.number self.old.volume self.new.volume) }
-        ensures sealed { OnOk result (self.new.seals ≢ self.old.seals → IsSealed self.old.number self.new.number self.old.seals self.new.seals self.new.unsealed) }
-        ensures shows { OnOk result (self.new.seals ≢ self.old.seals → Shows self.new.volume.geometry self.new.volume.half self.new.volume.volume.items self.new.number (picture self.new.tree)) }
-        ensures last { OnOk result (is_last (journal_of self.new.volume.half).last self.new.number ≡ true) }
-        ensures working { OnOk result (self.new.volume.failed ≡ false) }
+        requires last { is_last (journal_of self.old.volume.half).last (further self.old.first self.old.written) ≡ true }
+        ensures front { self.new.front ≡ record self.old.front { handed = seals_of self.old.front } }
+        ensures first { self.new.first ≡ self.old.first }
         ensures geometry { self.new.volume.geometry ≡ self.old.volume.geometry }
-        ensures moments { D.tells → (n : Now) (actor : ℕ) (items : List Item) → Stands n self.old.tree self.old.seals self.old.unsealed → Shows self.old.volume.geometry self.old.volume.half self.old.volume.volume.items self.old.number items
-            → LeavesBy D.Disk self.old.volume.disk self.new.volume.disk (EitherShown (commits n actor command.StreamSync) (self.old.number, items) (further self.old.number 1, picture self.old.tree)) }
+        ensures written { OnOk result (self.new.written ≡ seals_of self.old.front) }
+        ensures settled { OnOk result (Settled self.new.volume.geometry self.new.volume.volume.items self.new.metadata self.new.front self.new.first self.new.written) }
+        ensures used { (room : Room) → HasUsed room self.old.front self.old.written self.old.volume.half → OnOk result (HasUsed room self.new.front self.new.written self.new.volume.half) }
+        ensures blocked { (room : Room) → HasUsed room self.old.front self.old.written self.old.volume.half → IsErrOf result StepFault.NotBuilt → all_fit room self.old.front ≡ false }
+        ensures last { OnOk result (is_last (journal_of self.new.volume.half).last (further self.new.first self.new.written) ≡ true) }
+        ensures working { OnOk result (self.new.volume.failed ≡ false) }
+        ensures moments { D.tells → LeavesBy D.Disk self.old.volume.disk self.new.volume.disk (ShowsOneOf self.old.front self.old.first self.old.written (seals_of self.old.front)) }
         ensures later { D.faults self.old.volume.disk ≤ D.faults self.new.volume.disk }
         ensures device { IsErrOf result StepFault.Device → Rose (D.faults self.old.volume.disk) (D.faults self.new.volume.disk) }
     {
-        if self.unsealed == 0 {
-            return Ok(Reply::Synced { seals: self.seals });
+        let sealed = self.front.take_sealed();
+        for batch in &sealed {
+            self.commit(alloc, batch)?;
         }
-        self.commit(alloc)?;
-        self.seals += 1;
-        self.unsealed = 0;
-        Ok(Reply::Synced { seals: self.seals })
+        Ok(())
     }
 
-    /// Performs a command, and answers its reply.
+    /// Performs a command of an actor, and answers its reply.
     ///
-    /// At every moment a crash leaves an image with the picture of before, or, where the command is a sync of something
-    /// unsealed, with that of the tree. `Device` comes only where the disk's faults rose, and the volume has failed after it.
-    pub fn step(&mut self, alloc: Global, command: &Command) -> Result<Reply, StepFault>
-        requires waits { Waits (volume_of self.old.volume.geometry self.old.volume.volume.items) self.old.pending self.old.tree self.old.unsealed }
+    /// At every moment a crash leaves an image with the picture of a cut from the last that was written to the last that is sealed.
+    /// `Device` comes only where the disk's faults rose, and the volume has failed after it. After any fault but one that leaves the
+    /// front as it was, nothing may be performed any more.
+    pub fn step(&mut self, alloc: Global, actor: u8, command: &Command) -> Result<Reply, StepFault>
+        requires actor { actor < 64 }
+        requires fits { IsTrue (fits_command command.now) }
+        requires settled { Settled self.old.volume.geometry self.old.volume.volume.items self.old.metadata self.old.front self.old.first self.old.written }
+        requires handed { self.old.front.handed ≡ self.old.written }
         requires working { self.old.volume.failed ≡ false }
-        requires last { is_last (journal_of self.old.volume.half).last self.old.number ≡ true }
-        requires room { self.old.seals < 2 ^ 64 - 1 }
-        ensures waits { OnOk result (Waits (volume_of self.new.volume.geometry self.new.volume.volume.items) self.new.pending self.new.tree self.new.unsealed) }
-        ensures ok { (n : Now) (actor : ℕ) → Stands n self.old.tree self.old.seals self.old.unsealed → IfOk result (λ answer. Answered (sizes self.old.volume.geometry) (room_in (journal_of self.old.volume.half)) n actor command.now answer self.new.tree self.new.seals self.new.unsealed (room_in (journal_of self.new.volume.half))) }
-        ensures blocked { (n : Now) (actor : ℕ) → Stands n self.old.tree self.old.seals self.old.unsealed → IsErrOf result StepFault.NotBuilt → is_blocked (sizes self.old.volume.geometry) (room_in (journal_of self.old.volume.half)) n actor command.now ≡ true }
-        ensures quiet { OnOk result (self.new.seals ≡ self.old.seals → IsQuiet self.old.number self.new.number self.old.volume self.new.volume) }
-        ensures sealed { OnOk result (self.new.seals ≢ self.old.seals → IsSealed self.old.number self.new.number self.old.seals self.new.seals self.new.unsealed) }
-        ensures shows { OnOk result (self.new.seals ≢ self.old.seals → Shows self.new.volume.geometry self.new.volume.half self.new.volume.volume.items self.new.number (picture self.new.tree)) }
-        ensures last { OnOk result (is_last (journal_of self.new.volume.half).last self.new.number ≡ true) }
-        ensures working { OnOk result (self.new.volume.failed ≡ false) }
+        requires last { is_last (journal_of self.old.volume.half).last (further self.old.first self.old.written) ≡ true }
+        ensures stepped { IfOk result (λ reply. IsStepped self.old.front self.old.written actor command.now reply self.new.front self.new.written) }
+        ensures settled { OnOk result (Settled self.new.volume.geometry self.new.volume.volume.items self.new.metadata self.new.front self.new.first self.new.written) }
+        ensures used { (room : Room) → HasUsed room self.old.front self.old.written self.old.volume.half → OnOk result (HasUsed room self.new.front self.new.written self.new.volume.half) }
+        ensures unblocked { (room : Room) → HasUsed room self.old.front self.old.written self.old.volume.half → OnOk result (is_blocked self.old.front.sizes room self.old.front.opening self.old.front.entries actor command.now ≡ false) }
+        ensures blocked { (room : Room) → HasUsed room self.old.front self.old.written self.old.volume.half → IsErrOf result StepFault.NotBuilt → is_blocked self.old.front.sizes room self.old.front.opening self.old.front.entries actor command.now ≡ true }
+        ensures first { self.new.first ≡ self.old.first }
         ensures geometry { self.new.volume.geometry ≡ self.old.volume.geometry }
-        ensures moments { D.tells → (n : Now) (actor : ℕ) (items : List Item) → Stands n self.old.tree self.old.seals self.old.unsealed → Shows self.old.volume.geometry self.old.volume.half self.old.volume.volume.items self.old.number items
-            → LeavesBy D.Disk self.old.volume.disk self.new.volume.disk (EitherShown (commits n actor command.now) (self.old.number, items) (further self.old.number 1, picture self.old.tree)) }
+        ensures last { OnOk result (is_last (journal_of self.new.volume.half).last (further self.new.first self.new.written) ≡ true) }
+        ensures working { OnOk result (self.new.volume.failed ≡ false) }
+        ensures moments { D.tells → LeavesBy D.Disk self.old.volume.disk self.new.volume.disk (ShowsOneOf (record self.old.front { entries = next_history self.old.front actor command.now }) self.old.first self.old.written (seals_of (record self.old.front { entries = next_history self.old.front actor command.now }))) }
         ensures later { D.faults self.old.volume.disk ≤ D.faults self.new.volume.disk }
         ensures device { IsErrOf result StepFault.Device → Rose (D.faults self.old.volume.disk) (D.faults self.new.volume.disk) }
     {
-        match command {
-            Command::Mkdir { path } => self.make(alloc, path, true),
-            Command::Create { path } => self.make(alloc, path, false),
-            Command::StreamSync => self.sync(alloc),
-            _ => Err(StepFault::NotBuilt),
+        let reply = match self.front.act(actor, command) {
+            Ok(reply) => reply,
+            Err(ActFault::NotBuilt) => return Err(StepFault::NotBuilt),
+            // A history has more calls than a script has lines: it is never full.
+            Err(ActFault::HistoryFull { .. } | ActFault::NoMemory) => {
+                return Err(StepFault::NoMemory);
+            }
+        };
+        if !is_sync_form(command) {
+            return Ok(reply);
         }
+        self.write_all(alloc)?;
+        Ok(reply)
     }
 
     /// Hands the disk back.
@@ -240,11 +168,10 @@ impl<D: Disk> Session<D> {
     {
         let Session {
             volume,
-            tree: _,
-            pending: _,
-            number: _,
-            seals: _,
-            unsealed: _,
+            metadata: _,
+            front: _,
+            first: _,
+            written: _,
         } = self;
         volume.end()
     }

@@ -1,5 +1,5 @@
 //! Calls of the program on disks in memory, by their exact output.
-use super::trials::{FIRST, FIRST_TEXT, FRESH_TREE, call, fresh, made, run};
+use super::trials::{FIRST, FIRST_TEXT, FRESH_TREE, call, fresh, holds_at, made, run};
 use super::*;
 use ccfs_base::{Bytes, MemSink, MemSource, NoMemory};
 use disk_model::{CallKind, Disk, FailPlan, MemDisk};
@@ -168,6 +168,11 @@ fn a_command_that_is_not_built_ends_a_run_with_1(rt: HostRuntime) -> Result<(), 
     let ended = run(rt.alloc(), fresh(rt.alloc())?, script, &mut out)?;
     assert_eq!(rt; (ended.status, ended.disk.calls()), (1, 0));
     assert_eq!(rt; out.held(), b"line 2 not built\n".as_slice());
+    let mut out = MemSink::new(rt.alloc(), None);
+    let script = b"0 setstream 1\n0 setstream 3 ignore\n";
+    let ended = run(rt.alloc(), fresh(rt.alloc())?, script, &mut out)?;
+    assert_eq!(rt; (ended.status, ended.disk.calls()), (1, 0));
+    assert_eq!(rt; out.held(), b"line 2 not built\n".as_slice());
     Ok(())
 }
 
@@ -242,15 +247,21 @@ fn create_files(script: &mut Bytes, from: u16, count: u16) -> Result<(), NoMemor
 }
 
 #[test]
-fn the_513th_row_since_a_sync_is_not_built(rt: HostRuntime) -> Result<(), Fail> {
+fn the_513th_row_of_a_stream_seals_the_rows_before(rt: HostRuntime) -> Result<(), Fail> {
     let mut script = Bytes::new(rt.alloc());
     create_files(&mut script, 0, 513)?;
+    script.append(b"0 flush\n")?;
     let disk = made(rt.alloc(), "512", "1024")?;
     let mut out = MemSink::in_pieces(rt.alloc(), 1, None);
     let ended = run(rt.alloc(), disk, script.all(), &mut out)?;
-    assert_eq!(rt; ended.status, 1);
-    assert_eq!(rt; out.held().len(), 512 * 5 + 19);
-    assert!(rt; out.held().ends_with(b"0 ok\nline 513 not built\n"));
+    assert_eq!(rt; (ended.status, ended.batches), (0, 1));
+    assert!(rt;
+        holds_at(
+            &out,
+            512 * 5,
+            b"0 ok\n0 ok 1\nbatches 1\ndir / entries 512 changes 512\n"
+        )
+    );
     Ok(())
 }
 

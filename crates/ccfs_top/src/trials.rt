@@ -63,3 +63,10 @@ pub fn made(alloc: Global, blocks: &str, inodes: &str) -> Result<MemDisk, NoMemo
 pub fn fresh(alloc: Global) -> Result<MemDisk, NoMemory> {
     made(alloc, "512", "32")
 }
+
+/// Whether a sink holds these bytes from a place on.
+pub fn holds_at(out: &MemSink, place: usize, bytes: &[u8]) -> bool {
+    out.held()
+        .get(place..)
+        .is_some_and(|rest| rest.starts_with(bytes))
+}

@@ -1,5 +1,8 @@
-pub mod Built
-pub mod Batches
-pub mod BatchLaws
-pub mod CutLaws
-pub mod Viewing
+pub mod Fronts
+pub mod Codes
+pub mod Free
+pub mod Logged
+pub mod Pending
+pub mod Entering
+pub mod Left
+pub mod Held

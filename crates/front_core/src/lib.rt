@@ -1,30 +1,24 @@
-//! The core of a front: what a command answers, which records its update makes, and what a batch of records carries.
+//! The front of a session: what commands answer, which updates they make, and which batches their seals make.
 //!
-//! `answer` tells the reply and the update of a command by the tree with its index; `records_of` tells the records of an update.
-//! The crate stands on `history_model`, whose definitions the answers are, on `image_model` for what a volume carries and which
-//! changes an update makes, on the codecs for their bytes, and on `tree_cuts` for the cuts of a history. It promises that each
-//! answer is exactly that of the definitions and its update applies, that the records of an update are those of its changes,
-//! whatever the tree is, and that the records of a batch take a volume whose metadata carries the tree of one cut to one whose
-//! metadata carries that of the next.
+//! The crate stands on `front_parts` for the answers and records of single commands, on `front_laws` for what the whole keeps, on
+//! `shared_meta`, `stream_txn` and `cross_dep` for what isn't sealed, and on `free_maps` for free inodes. It promises that each call adds
+//! just the entry of the definitions to the history, and that what it hands out are just the batches of that history's seals.
 #![tactic(auto)]
 
-mod answering;
-mod changes;
-pub mod laws;
-mod making;
-mod moving;
-pub mod records;
-mod removing;
-mod showing;
-mod views;
+mod bits;
+pub mod fault;
+mod free;
+pub mod front;
+mod logging;
+mod operations;
+mod pending;
+mod planning;
+mod state;
 
-pub use answering::{
-    answer, answer_list, answer_make, answer_rename, answer_rmdir, answer_stat, answer_unlink,
-};
-pub use records::records_of;
-pub use views::{Answered, View};
+pub use fault::ActFault;
+pub use front::Front;
 
 #[cfg(test)]
-mod answers_tests;
+mod free_tests;
 #[cfg(test)]
-mod records_tests;
+mod logging_tests;

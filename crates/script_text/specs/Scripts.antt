@@ -1,7 +1,7 @@
 -- What a whole script asks for.
-use Rattle.std.specs.Prelude.{◌≡◌, ℕ, ◌+◌, Bool, true, false, ◌||◌, cond, nat_lt, List, [], ◌∷◌, ◌++◌, length, Option, Some, None, Result, Ok, Err}
+use Rattle.std.specs.Prelude.{◌≡◌, ℕ, ◌+◌, Bool, true, false, not, ◌||◌, cond, nat_lt, List, [], ◌∷◌, ◌++◌, length, Option, Some, None, Result, Ok, Err}
 use Rattle.ccfs_base.specs.declared.commands.Command.{Command}
-use Rattle.ccfs_base.specs.declared.commands.Command.TheVariants.{Mkdir, Create, StreamSync, Write, HWrite}
+use Rattle.ccfs_base.specs.declared.commands.Command.TheVariants.{Mkdir, Create, Unlink, Rmdir, Rename, Stat, List as Listing, SetStream, StreamSync, Sync, Flush, Write, HWrite}
 use Rattle.script_text.specs.Lines.{lines_of}
 use Rattle.script_text.specs.Grammar.{meaning_of}
 use Rattle.script_text.specs.declared.grammar.Line.{Line}
@@ -65,11 +65,19 @@ behind (Some number) calls more = Err number
 behind None calls (Ok more) = Ok (calls ++ more)
 behind None calls (Err number) = Err number
 
--- whether a command is built: `mkdir`, `create` and `streamsync` are, so far
+-- whether a command is built: those on names and the sync forms but that of a handle are, so far, and `setstream` without `ignore`
 abbrev pub is_built : Command → Bool
 is_built (Mkdir path) = true
 is_built (Create path) = true
+is_built (Unlink path) = true
+is_built (Rmdir path) = true
+is_built (Rename path to) = true
+is_built (Stat path) = true
+is_built (Listing path skip) = true
+is_built (SetStream stream ignore) = not ignore
 is_built StreamSync = true
+is_built Sync = true
+is_built Flush = true
 is_built _ = false
 
 -- the line of the first call whose command isn't built, if one isn't

@@ -95,10 +95,20 @@ pub fn parse_script(alloc: Global, text: &[u8]) -> Result<Vec<Call>, ScriptFault
 pub fn is_built(command: &Command) -> bool
     ensures { result ≡ is_built command.now }
 {
-    matches!(
-        command,
-        Command::Mkdir { .. } | Command::Create { .. } | Command::StreamSync
-    )
+    match command {
+        Command::Mkdir { .. }
+        | Command::Create { .. }
+        | Command::Unlink { .. }
+        | Command::Rmdir { .. }
+        | Command::Rename { .. }
+        | Command::Stat { .. }
+        | Command::List { .. }
+        | Command::StreamSync
+        | Command::Sync
+        | Command::Flush => true,
+        Command::SetStream { ignore, .. } => !*ignore,
+        _ => false,
+    }
 }
 
 // What the lines of a script that were read asked for.

@@ -13,7 +13,7 @@ use Rattle.ccfs_top.specs.Ends.{joined}
 use Rattle.ccfs_top.specs.Images.{Holds}
 use Rattle.ccfs_top.specs.Left.{Halts}
 use Rattle.ccfs_top.specs.Runs.{further, image_by, final_history, replies, ran}
-use Rattle.ccfs_top.specs.Stages.{sizes}
+use Rattle.front_core.specs.Fronts.{sizes_of}
 use Rattle.ccfs_top.proofs.Ending.{run_kinds}
 use Rattle.ccfs_top.proofs.Viewing.{shown_of}
 use Rattle.ccfs_top.proofs.Finishing.{kept_then, done_run, halts_tree}
@@ -22,7 +22,7 @@ use Rattle.ccfs_top.proofs.finish.run_session.Goals as goal
 pub returns-in-Err-clause-halts : goal.returns-in-Err-clause-halts
 returns-in-Err-clause-halts g c = λ told.
     let s = c.args.session in let calls = c.args.calls.now in
-    let image = image_by s.number s.tree s.volume.geometry s.volume.half in
+    let image = image_by s.first s.front.opening s.volume.geometry s.volume.half in
     subst (λ x. Halts g.D.Disk s.volume.disk x calls (Holds image) (ran image calls) c.in-Err.fault g.K.Sink.tells (g.K.Sink.held c.args.out.now) (g.K.Sink.held c.perform_all.new.out)) (sym c.end.ensures)
     (c.in-Err.ensures.halts told)
 
@@ -59,10 +59,10 @@ returns-in-Ok-write_shown-clause-done g c = λ told.
     let d = g.D.Disk in
     let s = c.args.session in
     let calls = c.args.calls.now in
-    let image = image_by s.number s.tree s.volume.geometry s.volume.half in
+    let image = image_by s.first s.front.opening s.volume.geometry s.volume.half in
     let h = final_history image calls in
-    let number = further s.number (durable h) in
-    let items = picture (tree_at (sizes s.volume.geometry) (start s.tree) h (durable h)) in
+    let number = further s.first (durable h) in
+    let items = picture (tree_at (sizes_of s.volume.geometry) (start s.front.opening) h (durable h)) in
     let v = c.perform_all.new.session.volume in
     let disk = c.end-disk.result in
     let new = c.write_shown.new.disk in
@@ -83,10 +83,10 @@ returns-in-Err-write_shown-clause-halts g c = λ told.
     let d = g.D.Disk in
     let s = c.args.session in
     let calls = c.args.calls.now in
-    let image = image_by s.number s.tree s.volume.geometry s.volume.half in
+    let image = image_by s.first s.front.opening s.volume.geometry s.volume.half in
     let h = final_history image calls in
-    let number = further s.number (durable h) in
-    let items = picture (tree_at (sizes s.volume.geometry) (start s.tree) h (durable h)) in
+    let number = further s.first (durable h) in
+    let items = picture (tree_at (sizes_of s.volume.geometry) (start s.front.opening) h (durable h)) in
     let v = c.perform_all.new.session.volume in
     let disk = c.end-disk.result in
     let new = c.write_shown.new.disk in

@@ -1,0 +1,6 @@
+pub mod Fronts
+pub mod Puts
+pub mod Weights
+pub mod Putting
+pub mod Numbering
+pub mod Batching

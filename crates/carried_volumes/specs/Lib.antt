@@ -1,0 +1,3 @@
+pub mod Plain
+pub mod Carried
+pub mod Laws

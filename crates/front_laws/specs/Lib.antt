@@ -1,0 +1,6 @@
+pub mod Inodes
+pub mod Kept
+pub mod Batches
+pub mod Owned
+pub mod Logging
+pub mod Laws

@@ -1,4 +1,0 @@
-pub mod Made
-pub mod Ranges
-pub mod Waiting
-pub mod Laws
