@@ -1,6 +1,6 @@
 -- The ranges of a batch: those of its records and the one of its number.
 use Rattle.std.proofs.Common.{◌≡◌, ℕ, ◌+◌, ◌≤◌, List, [], ◌∷◌, ◌++◌, length, refl, ap, ◌∙◌, subst, sym, arith, length-append}
-use Rattle.std.specs.List.{All, sum_by}
+use Rattle.std.specs.List.{All}
 use Rattle.std.proofs.lemmas.List.Concat.{flat_map-append}
 use Rattle.std.proofs.lemmas.List.Elements.{All-nil, All-cons, All-append}
 use Rattle.byteorder.specs.Endian.{little_bytes}
@@ -11,7 +11,7 @@ use Rattle.delta_log.proofs.Records.{all_recorded_length}
 use Rattle.gate_journal.specs.declared.batches.Batch.{Batch}
 use Rattle.gate_journal.specs.declared.batches.Range.{Range}
 use Rattle.gate_journal.specs.Batches.{record_bytes, records_bytes, batch_bytes, Stands}
-use Rattle.batch_ranges.specs.Ranges.{size_of, range_at, left_by, number_range, number_record, ranges_by, batch_size, AreSome}
+use Rattle.batch_ranges.specs.Ranges.{range_at, left_by, number_range, number_record, ranges_by, batch_size, AreSome}
 use Rattle.batch_ranges.proofs.Weights.{left_stand, left_weigh}
 
 -- the record of the number leaves its bytes at the front

@@ -1,7 +1,7 @@
 -- What a commit of the next batch leaves, and what a session's volume shows.
-use Rattle.std.proofs.Common.{◌≡◌, inl, inr, ⊎_elim, [], ◌∷◌, ℕ, suc, ◌+◌, ◌-◌, ◌*◌, ◌%◌, ◌≤◌, ◌<◌, ◌^◌, Bool, true, false, Option, Some, None, List, length, min, refl, sym, ◌∙◌, ap, subst, arith}
+use Rattle.std.proofs.Common.{◌≡◌, [], ◌∷◌, ℕ, suc, ◌+◌, ◌%◌, ◌≤◌, ◌<◌, ◌^◌, Bool, true, false, Option, Some, None, List, length, refl, sym, ◌∙◌, ap, subst, arith}
 use Rattle.std.specs.List.{All, AllByRecursion}
-use Rattle.std.proofs.lemmas.Bool.{eq-eqb, eqb-true}
+use Rattle.std.proofs.lemmas.Bool.{eqb-true}
 use Rattle.std.proofs.lemmas.Bool.Decides.{nat_tests}
 use Rattle.std.proofs.lemmas.List.{length-take}
 use Rattle.block_layout.specs.declared.geometry.Geometry.{Geometry}
@@ -17,7 +17,6 @@ use Rattle.gate_journal.specs.Journal.{Journal}
 use Rattle.gate_journal.specs.Halves.{journal_of, fits, MayFollow, with_batch}
 use Rattle.atomic_volume.specs.Opening.{Contents, put_on}
 use Rattle.atomic_volume.specs.Held.{contents_by}
-use Rattle.atomic_volume.specs.Commits.{committed}
 use Rattle.image_model.specs.Fields.{block_place}
 use Rattle.image_model.specs.Volumes as volumes
 use Rattle.image_model.specs.Volumes.{Volume, volume_of, metadata}
@@ -28,7 +27,6 @@ use Rattle.image_model.specs.ChangeLaws.{AreBesideSame}
 use Rattle.tree_model.specs.declared.rows.Entry.{Entry}
 use Rattle.tree_model.specs.Rows.{Rows}
 use Rattle.tree_model.specs.Picture.{picture}
-use Rattle.history_model.specs.Histories.{start, tree_at}
 use Rattle.carried_volumes.specs.Carried.{Carried}
 use Rattle.batch_ranges.specs.Ranges.{ranges_by, metadata_after, AreSome}
 use Rattle.batch_ranges.specs.Laws.{with_ranges, numbered}
@@ -42,7 +40,7 @@ use Rattle.front_core.specs.Fronts.{Fronted, seals_of}
 use Rattle.recovery.specs.Recovering.{volume_in, picture_shown}
 use Rattle.recovery.proofs.Carried.{carried_trees_are_shown}
 use Rattle.ccfs_top.specs.Runs.{further}
-use Rattle.ccfs_top.specs.Stages.{Room, room_in, has_room, used_by}
+use Rattle.ccfs_top.specs.Stages.{room_in, has_room, used_by}
 use Rattle.ccfs_top.specs.Sessions.{Settled, Shows, cut_tree}
 use Rattle.carried_volumes.proofs.Standing.{carried_volumes_stand}
 use Rattle.front_laws.proofs.CarryOn.{batches_carry_on}

@@ -1,14 +1,11 @@
 -- How far a run came, and what it has written then.
-use Rattle.std.proofs.Common.{◌≡◌, ◌≢◌, ◌⊎◌, inl, inr, ℕ, ◌+◌, ◌^◌, ◌≤◌, ◌<◌, List, [], ◌∷◌, ◌++◌, length, take, drop, get_or, refl, sym, ap, ◌∙◌, subst, arith, append_assoc}
+use Rattle.std.proofs.Common.{◌≡◌, ◌⊎◌, inl, inr, ℕ, ◌+◌, ◌^◌, ◌≤◌, ◌<◌, List, [], ◌∷◌, ◌++◌, length, take, drop, refl, sym, ap, ◌∙◌, subst, arith, append_assoc}
 use Rattle.std.specs.declared.option.Option.{Option}
 use Rattle.std.specs.declared.option.Option.TheVariants.{None, Some}
-use Rattle.std.proofs.lemmas.List.{take_at, drop_at, nil_from_length, map-append, length-append, length-map, length-drop, length-take-le, take-append-drop}
-use Rattle.std.proofs.lemmas.Bool.{cases_eq}
+use Rattle.std.proofs.lemmas.List.{take_at, drop_at, map-append, length-append, length-map, length-drop, length-take-le, take-append-drop}
 use Rattle.ccfs_base.specs.declared.commands.Command.{Command}
-use Rattle.tree_model.specs.declared.picturing.Item.{Item}
 use Rattle.tree_model.specs.declared.rows.Entry.{Entry}
 use Rattle.tree_model.specs.Rows.{Rows}
-use Rattle.tree_model.specs.Picture.{picture}
 use Rattle.tree_cuts.specs.Calls.{Sizes}
 use Rattle.history_model.specs.State.{Now}
 use Rattle.history_model.specs.Histories.{start, entered_by, entry_of, hist, now_after}

@@ -1,21 +1,19 @@
 -- What a crash leaves on a session's way.
-use Rattle.std.proofs.Common.{◌≡◌, inl, inr, ⊎_elim, ℕ, ◌+◌, ◌≤◌, true, List, refl, sym, ◌∙◌, ap, subst, arith}
+use Rattle.std.proofs.Common.{◌≡◌, ⊎_elim, ℕ, ◌+◌, ◌≤◌, List, ◌∙◌, arith}
 use Rattle.std.specs.declared.option.Option.TheVariants.{Some}
 use Rattle.disk_model.specs.declared.disk.Disk.{Ghosts}
 use Rattle.disk_model.proofs.Runs.{elapses_start, elapses_join, each_join}
 use Rattle.block_layout.specs.declared.geometry.Geometry.{Geometry}
 use Rattle.gate_journal.specs.declared.batches.Batch.{Batch}
 use Rattle.gate_journal.specs.declared.halves.Half.{Half}
-use Rattle.gate_journal.specs.Halves.{journal_of}
 use Rattle.gate_journal.specs.Runs.{LeavesBy}
 use Rattle.atomic_volume.specs.Held.{contents_by, Holds}
 use Rattle.atomic_volume.specs.Commits.{committed, AllOrNothing}
-use Rattle.image_model.specs.Checks.{is_last}
-use Rattle.recovery.specs.Recovering.{picture_shown, shown_for_now}
+use Rattle.recovery.specs.Recovering.{picture_shown}
 use Rattle.tree_model.specs.Picture.{picture}
-use Rattle.front_core.specs.Fronts.{Fronted, seals_of}
+use Rattle.front_core.specs.Fronts.{Fronted}
 use Rattle.ccfs_top.specs.Runs.{further}
-use Rattle.ccfs_top.specs.Sessions.{Settled, Shows, ShowsOneOf, cut_tree}
+use Rattle.ccfs_top.specs.Sessions.{Shows, ShowsOneOf, cut_tree}
 use Rattle.ccfs_top.proofs.Viewing.{shows_to}
 
 -- ---- runs

@@ -1,5 +1,6 @@
 pub mod Said
 pub mod Reading
+pub mod Fewness
 pub mod Viewing
 pub mod Imaged
 pub mod Rooms

@@ -1,8 +1,8 @@
 -- The room that batches take, one after the other.
-use Rattle.std.proofs.Common.{◌≡◌, ℕ, zero, suc, ◌+◌, ◌-◌, ◌<◌, ◌≤◌, Bool, true, false, ◌&&◌, List, [], ◌∷◌, ◌++◌, length, refl, sym, ap, subst, ◌∙◌, arith, ltb, append-nil}
+use Rattle.std.proofs.Common.{◌≡◌, ℕ, zero, suc, ◌+◌, ◌-◌, ◌<◌, ◌≤◌, Bool, true, false, ◌&&◌, List, [], ◌∷◌, ◌++◌, length, refl, sym, ap, ◌∙◌, arith, ltb, append-nil}
 use Rattle.std.specs.Prelude.{not}
 use Rattle.std.specs.List.{sum_by}
-use Rattle.std.proofs.lemmas.Bool.{and_parts, le-ltb}
+use Rattle.std.proofs.lemmas.Bool.{le-ltb}
 use Rattle.stream_cuts.specs.Streams.{Step, Enter, Seal, no_counts, one_more, entered, counts_after, keep_if}
 use Rattle.stream_cuts.specs.Cuts.{between_from, seals_from, seals, cut_at, batch}
 use Rattle.stream_cuts.proofs.Counts.{more_below}
@@ -13,7 +13,6 @@ use Rattle.ccfs_base.specs.declared.records.Rec.TheVariants as recs
 use Rattle.tree_model.specs.declared.rows.Entry.{Entry}
 use Rattle.tree_model.specs.Rows.{Rows}
 use Rattle.tree_cuts.specs.Calls.{Sizes, Charged, plain}
-use Rattle.history_model.specs.State.{Now}
 use Rattle.history_model.specs.Histories.{start, now_after, charged_in, seal_count}
 use Rattle.history_model.proofs.Longer.{charged_append}
 use Rattle.gate_journal.specs.declared.halves.Half.{Half}
@@ -23,7 +22,7 @@ use Rattle.front_laws.specs.Batches.{batch_at}
 use Rattle.front_laws.specs.Kept.{IsKept}
 use Rattle.front_laws.specs.Laws.{record_size}
 use Rattle.front_core.specs.Fronts.{Fronted, seals_of}
-use Rattle.ccfs_top.specs.Stages.{Room, room_in, has_room, used_by, have_room, used_by_all, batch_bytes, sizes_from, all_sizes}
+use Rattle.ccfs_top.specs.Stages.{Room, room_in, has_room, used_by, have_room, used_by_all, batch_bytes, sizes_from}
 use Rattle.ccfs_top.specs.Sessions.{HasUsed, all_fit}
 use Rattle.front_laws.proofs.BatchSizes.{batches_have_their_size}
 

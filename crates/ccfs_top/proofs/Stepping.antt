@@ -1,5 +1,5 @@
 -- What a session keeps when a call is made.
-use Rattle.std.proofs.Common.{◌≡◌, ℕ, zero, suc, ◌+◌, ◌-◌, ◌<◌, ◌≤◌, ◌&&◌, Bool, true, false, cond, Option, None, Some, List, [], ◌∷◌, ◌++◌, length, refl, sym, ◌∙◌, ap, subst, arith, length-append}
+use Rattle.std.proofs.Common.{◌≡◌, ℕ, ◌<◌, ◌≤◌, ◌&&◌, Bool, true, false, cond, Option, None, Some, List, [], ◌∷◌, ◌++◌, length, refl, sym, ◌∙◌, ap, subst, arith, length-append}
 use Rattle.std.specs.Prelude.{not, ◌||◌}
 use Rattle.std.specs.FinMap.{get}
 use Rattle.std.proofs.lemmas.List.{get_or_append_left}
@@ -16,7 +16,6 @@ use Rattle.history_model.specs.State.{Now}
 use Rattle.history_model.specs.Histories.{start, now_after, seal_count, tree_at}
 use Rattle.history_model.proofs.Longer.{now_append, seals_counted, longer_trees}
 use Rattle.image_model.specs.Volumes.{Volume, volume_of}
-use Rattle.image_model.specs.Carrying.{inode_in}
 use Rattle.image_model.specs.CarriedLaws.{HaveSameInodes}
 use Rattle.image_model.proofs.CarriedSerials.{free_serials_may_change}
 use Rattle.carried_volumes.specs.Carried.{Carried, no_bytes}

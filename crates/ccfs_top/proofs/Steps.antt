@@ -1,5 +1,5 @@
 -- One call more in a run.
-use Rattle.std.proofs.Common.{◌≡◌, ℕ, ◌+◌, ◌≤◌, ◌<◌, Bool, true, false, cond, List, [], ◌∷◌, ◌++◌, length, take, drop, get_or, refl, sym, ap, ◌∙◌, subst, arith, append_assoc}
+use Rattle.std.proofs.Common.{◌≡◌, ℕ, ◌+◌, ◌≤◌, ◌<◌, Bool, true, false, cond, List, [], ◌∷◌, ◌++◌, length, take, drop, get_or, refl, sym, ap, ◌∙◌, arith, append_assoc}
 use Rattle.std.proofs.lemmas.List.{append-nil, take_more, drop_more, drop_all, map-append}
 use Rattle.std.specs.declared.option.Option.{Option}
 use Rattle.std.specs.declared.option.Option.TheVariants.{None, Some}
@@ -10,7 +10,6 @@ use Rattle.ccfs_base.specs.declared.commands.Command.{Command}
 use Rattle.ccfs_base.specs.declared.commands.Command.TheVariants as command
 use Rattle.ccfs_base.specs.declared.replies.Refusal.{Refusal}
 use Rattle.ccfs_base.specs.declared.replies.Refusal.TheVariants as refusal
-use Rattle.ccfs_base.specs.declared.replies.Reply.{Reply}
 use Rattle.ccfs_base.specs.declared.replies.Reply.TheVariants as reply
 use Rattle.ccfs_base.specs.Limits.{blocks}
 use Rattle.tree_model.specs.declared.rows.Update.{Update}
@@ -26,11 +25,11 @@ use Rattle.tree_cuts.specs.Calls.{Sizes}
 use Rattle.history_model.specs.State.{Now, stream_in, is_open_on}
 use Rattle.history_model.specs.Answers as answers
 use Rattle.history_model.specs.Answers.{Answer, answer, from_row, at_place}
-use Rattle.history_model.specs.Histories.{start, entered_by, entry_of, now_after, hist, seal_count, synced_number, durable}
+use Rattle.history_model.specs.Histories.{start, entered_by, entry_of, now_after, hist, seal_count, synced_number}
 use Rattle.history_model.proofs.Longer.{hist_append, hist_more, now_more, durable_more, seals_counted}
 use Rattle.script_text.specs.declared.scripts.Call.{Call}
 use Rattle.front_laws.specs.Kept.{is_answered}
-use Rattle.ccfs_top.specs.Stages.{Room, is_blocked, is_sync_form, called, have_room, all_sizes}
+use Rattle.ccfs_top.specs.Stages.{Room, is_blocked, is_sync_form, called}
 use Rattle.ccfs_top.specs.Runs.{asked, history, made, stopped, line_of, reply_lines}
 use Rattle.ccfs_top.specs.Ends.{joined}
 use Rattle.ccfs_top.specs.Reached.{history_to, Reached}

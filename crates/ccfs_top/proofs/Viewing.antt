@@ -7,11 +7,9 @@ use Rattle.tree_model.specs.Rows.{Rows}
 use Rattle.tree_model.specs.Picture.{picture}
 use Rattle.block_layout.specs.declared.geometry.Geometry.{Geometry}
 use Rattle.gate_journal.specs.declared.halves.Half.{Half}
-use Rattle.atomic_volume.specs.declared.fault.VolumeFault.{VolumeFault}
 use Rattle.atomic_volume.specs.declared.fault.VolumeFault.TheVariants.{BadLength, BadSuper, BadJournal}
 use Rattle.atomic_volume.specs.Opening.{Contents, opened, is_unbuilt}
 use Rattle.atomic_volume.specs.Held.{Holds}
-use Rattle.atomic_volume.specs.Refusals.{Refuses, IsBad as IsBadVolume}
 use Rattle.atomic_volume.proofs.Broken.{refused_opens_to_nothing}
 use Rattle.image_model.specs.declared.check.Check.{Check}
 use Rattle.image_model.specs.Volumes.{number}

@@ -1,15 +1,14 @@
 -- Sealed batches that are written one after another.
-use Rattle.std.proofs.Common.{◌≡◌, ℕ, zero, suc, ◌+◌, ◌-◌, ◌<◌, ◌≤◌, List, [], ◌∷◌, length, get_or, refl, sym, ◌∙◌, ap, subst, arith}
+use Rattle.std.proofs.Common.{◌≡◌, ℕ, zero, suc, ◌+◌, ◌-◌, ◌<◌, ◌≤◌, List, length, get_or, refl, sym, ◌∙◌, ap, subst, arith}
 use Rattle.block_layout.specs.declared.geometry.Geometry.{Geometry}
 use Rattle.gate_journal.specs.declared.halves.Half.{Half}
 use Rattle.file_bodies.specs.declared.batches.Sealed.{Sealed}
 use Rattle.tree_model.specs.declared.rows.Entry.{Entry}
 use Rattle.tree_model.specs.Rows.{Rows}
 use Rattle.tree_cuts.specs.Calls.{Sizes}
-use Rattle.history_model.specs.Histories.{start, seal_count}
+use Rattle.history_model.specs.Histories.{start}
 use Rattle.front_laws.specs.Batches.{batch_at, batches_from}
-use Rattle.front_laws.specs.Kept.{IsKept, now_of}
-use Rattle.front_laws.specs.Laws.{IsKeptNow}
+use Rattle.front_laws.specs.Kept.{IsKept}
 use Rattle.history_model.proofs.Longer.{seals_counted}
 use Rattle.front_core.specs.Fronts.{Fronted, seals_of, waiting}
 use Rattle.ccfs_top.specs.Stages.{Room}

@@ -101,6 +101,7 @@ fn run_session<D: Disk, K: Sink>(
 ) -> Result<Finished<D>, Returned<Stop, D>>
     requires actors { All (λ call. call.actor < 64) calls.now }
     requires fits { All (λ call. fits_command call.command ≡ true) calls.now }
+    requires few { length calls.now ≤ 65536 }
     requires new { session.front ≡ new_front session.volume.geometry 1048576 session.front.opening session.front.inodes }
     requires none_written { session.written ≡ 0 }
     requires settled { Settled session.volume.geometry session.volume.volume.items session.metadata session.front session.first session.written }
@@ -139,6 +140,7 @@ pub fn run_disk<D: Disk, K: Sink>(
 ) -> Result<Finished<D>, Returned<Stop, D>>
     requires actors { All (λ call. call.actor < 64) calls.now }
     requires fits { All (λ call. fits_command call.command ≡ true) calls.now }
+    requires few { length calls.now ≤ 65536 }
     ensures done { D.tells → IfOk result (λ done. (found : List ℕ) × IsFound (D.may_leave disk) (D.in_doubt disk) (D.seen disk) found
         × ((image : Image) × IsImage image found × Done D.Disk disk done.disk calls.now image done.batches K.tells (K.held out.old) (K.held out.new))) }
     ensures halts { D.tells → IfErr result (λ refused. (found : List ℕ) × IsFound (D.may_leave disk) (D.in_doubt disk) (D.seen disk) found

@@ -67,6 +67,7 @@ pub fn perform_all<D: Disk, K: Sink>(
 ) -> Result<(), Stop>
     requires actors { All (λ call. call.actor < 64) calls.now }
     requires fits { All (λ call. fits_command call.command ≡ true) calls.now }
+    requires few { length calls.now ≤ 65536 }
     requires new { session.old.front ≡ new_front session.old.volume.geometry 1048576 session.old.front.opening session.old.front.inodes }
     requires none_written { session.old.written ≡ 0 }
     requires settled { Settled session.old.volume.geometry session.old.volume.volume.items session.old.metadata session.old.front session.old.first session.old.written }

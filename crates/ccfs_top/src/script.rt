@@ -61,6 +61,7 @@ pub fn read_calls<S: Source>(alloc: Global, script: &mut S) -> Result<Vec<Call>,
     ensures ok { S.tells → IfOk result (λ calls. (is_long (S.left script.old) ≡ false) × (calls_of (S.left script.old) ≡ Ok calls.items) × (first_unbuilt calls.items ≡ None)) }
     ensures actors { IfOk result (λ calls. All (λ call. call.actor < 64) calls.items) }
     ensures fits { IfOk result (λ calls. All (λ call. fits_command call.command ≡ true) calls.items) }
+    ensures few { IfOk result (λ calls. length calls.items ≤ 65536) }
     ensures long { S.tells → IsErrOf result ScriptEnd.Long → is_long (S.left script.old) ≡ true }
     ensures bad_line { S.tells → (line : ℕ) → IsErrOf result (ScriptEnd.BadLine line) → (is_long (S.left script.old) ≡ false) × (calls_of (S.left script.old) ≡ Err line) }
     ensures not_built { S.tells → (line : ℕ) → IsErrOf result (ScriptEnd.NotBuilt line) → (is_long (S.left script.old) ≡ false) × IsFirstUnbuilt (S.left script.old) line }

@@ -1,5 +1,5 @@
 //! A file system in use: its front, and the volume that holds what is durable.
-ghost use Rattle.std.specs.Prelude.{◌≡◌, ◌≤◌, ◌<◌, ◌+◌, true, false, IsTrue, IfOk, OnOk, IsErrOf};
+ghost use Rattle.std.specs.Prelude.{◌≡◌, ◌≤◌, ◌<◌, ◌+◌, true, false, IsTrue, IfOk, OnOk, IsErrOf, length};
 ghost use Rattle.fault_counts.specs.Counts.{Rose};
 ghost use Rattle.ccfs_base.specs.Fits.{fits_command};
 ghost use Rattle.stream_cuts.specs.Cuts.{batch};
@@ -130,6 +130,7 @@ impl<D: Disk> Session<D> {
     pub fn step(&mut self, alloc: Global, actor: u8, command: &Command) -> Result<Reply, StepFault>
         requires actor { actor < 64 }
         requires fits { IsTrue (fits_command command.now) }
+        requires room { length self.old.front.entries < self.old.front.limit }
         requires settled { Settled self.old.volume.geometry self.old.volume.volume.items self.old.metadata self.old.front self.old.first self.old.written }
         requires handed { self.old.front.handed ≡ self.old.written }
         requires working { self.old.volume.failed ≡ false }
@@ -150,10 +151,8 @@ impl<D: Disk> Session<D> {
         let reply = match self.front.act(actor, command) {
             Ok(reply) => reply,
             Err(ActFault::NotBuilt) => return Err(StepFault::NotBuilt),
-            // A history has more calls than a script has lines: it is never full.
-            Err(ActFault::HistoryFull { .. } | ActFault::NoMemory) => {
-                return Err(StepFault::NoMemory);
-            }
+            Err(ActFault::NoMemory) => return Err(StepFault::NoMemory),
+            Err(ActFault::HistoryFull { .. }) => unreachable!(),
         };
         if !is_sync_form(command) {
             return Ok(reply);

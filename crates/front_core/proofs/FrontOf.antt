@@ -26,6 +26,7 @@ use Rattle.front_core.specs.declared.pending.Pending.{Pending}
 use Rattle.front_core.specs.declared.state.State.{State}
 use Rattle.front_core.proofs.Laws.{empty_kept}
 use Rattle.front_core.proofs.Fronting.{counted}
+use Rattle.front_core.proofs.Next.{few_serials}
 
 -- ---- a front that was just made
 
@@ -37,6 +38,10 @@ good_told g =
     let least = g.least_data in
     and_from _ _ (and_from _ _ (and_from _ _ (le-leb 32 g.inodes g.least_inodes) (le-leb g.inodes 8192 g.most_inodes)) (eq-eqb (g.inodes % 32) 0 g.inodes_in_steps))
     (le-leb (data_start g.inodes + 64) g.blocks (omega (arith, at, all, least)))
+
+-- so an opening has at most 8,192 serials
+pub short_list : (g : Geometry) (t : Rows) (inodes : List ℕ) → HaveInodes g.inodes inodes t → IsDense t (length inodes) → length inodes ≤ 8192
+short_list g t inodes have dense = few_serials g.blocks g.inodes t inodes (good_told g) have dense
 
 -- where all serials of the list have rows, all its inodes are below the count
 pub listed_below : (count : ℕ) (inodes : List ℕ) (t : Rows) → HaveInodes count inodes t → IsDense t (length inodes) → (i : ℕ) → i < length inodes → slice_index_or inodes i 0 < count
@@ -82,6 +87,7 @@ front_of g limit t inodes h s plain have dense limited empty tree next streams l
       handed_out = omega arith;
       good = (g.blocks, good_told g);
       few = omega arith;
+      short = (let few = short_list g t inodes have dense in omega (arith, next, few));
       limited = limited;
     })
 
@@ -92,7 +98,7 @@ module _ (sizes : Sizes) (limit : ℕ) (t : Rows) (h : List Entry) (handed : ℕ
   state_of s front =
       let few = front.few in
       let limited = front.limited in
-      record { kept = front.kept; left = front.left; few = omega (arith, few, limited); good = front.good }
+      record { kept = front.kept; left = front.left; few = omega (arith, few, limited); short = front.short; good = front.good }
 
   -- the number of seals
   pub seals_told : (s : State) → IsFrontOf sizes limit t h handed s → s.pending.txns.seals ≡ seal_count sizes (start t) h
@@ -103,6 +109,8 @@ module _ (sizes : Sizes) (limit : ℕ) (t : Rows) (h : List Entry) (handed : ℕ
   same_front old new front same =
       let n = now_of sizes t h in
       let left = front.left in
+      let short = front.short in
+      let next = same.next in
       record {
         kept = subst (λ z. IsKept sizes t z h) (sym same.inodes) front.kept;
         left = record {
@@ -117,6 +125,7 @@ module _ (sizes : Sizes) (limit : ℕ) (t : Rows) (h : List Entry) (handed : ℕ
         handed_out = front.handed_out;
         good = front.good;
         few = front.few;
+        short = omega (arith, short, next);
         limited = front.limited;
       }
 
@@ -153,5 +162,6 @@ module _ (sizes : Sizes) (limit : ℕ) (t : Rows) (h : List Entry) (handed : ℕ
         handed_out = omega (arith, all);
         good = front.good;
         few = front.few;
+        short = front.short;
         limited = front.limited;
       }

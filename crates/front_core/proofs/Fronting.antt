@@ -18,6 +18,7 @@ use Rattle.front_core.specs.Left.{IsMade}
 use Rattle.front_core.specs.Held.{IsFrontOf}
 use Rattle.front_core.specs.declared.state.State.{State}
 use Rattle.front_core.proofs.Laws.{longer_batches, seals_make_batches}
+use Rattle.front_core.proofs.Next.{next_stays}
 
 -- the inodes behind the others
 abbrev pub made_list : Option Update → ℕ → List ℕ
@@ -105,5 +106,7 @@ fronted_more sizes limit t h handed old new e front room made =
       handed_out = omega (arith, grown, few);
       good = front.good;
       few = omega (arith, long, room);
+      short = (let now = made.left.next in let was = front.left.next in let short = front.short in
+          let stays = next_stays sizes t h e (omega (arith, was, short)) in omega (arith, now, stays));
       limited = front.limited;
     }

@@ -7,7 +7,6 @@ pub mod Rising
 pub mod SealedBelow
 pub mod Fronting
 pub mod Planned
-pub mod Opening
 pub mod Viewed
 pub mod Making
 pub mod Made
@@ -15,11 +14,11 @@ pub mod Next
 pub mod Updating
 pub mod WithMore
 pub mod SealedBits
-pub mod Acting
 pub mod Turning
 pub mod Given
 pub mod Lists
 pub mod Lowest
+pub mod OneFree
 pub mod Taking
 pub mod Entering
 pub mod Longer

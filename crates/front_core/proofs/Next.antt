@@ -32,7 +32,7 @@ use Rattle.history_laws.proofs.Sound.{IsSound, handles_left, Told}
 use Rattle.history_laws.proofs.Told.{told}
 use Rattle.history_laws.proofs.Runs.{sound_start, sound_after}
 use Rattle.image_model.specs.Carrying.{inode_in}
-use Rattle.carried_volumes.specs.Plain.{IsPlain, IsDense}
+use Rattle.carried_volumes.specs.Plain.{IsDense}
 use Rattle.carried_volumes.specs.Carried.{HaveInodes}
 use Rattle.front_parts.specs.Built.{AreSerialsBelow}
 use Rattle.front_parts.specs.Batches as batches
@@ -50,7 +50,7 @@ use Rattle.front_core.specs.declared.pending.Pending.{Pending}
 use Rattle.front_core.specs.declared.pending.Entering.{Entering}
 use Rattle.front_core.specs.declared.state.State.{State}
 use Rattle.front_core.specs.declared.planning.Plan.{Plan}
-use Rattle.front_core.proofs.Laws.{empty_kept, next_kept, kept_states, may_be_logged, gave_dropped, built_weight, built_blocks}
+use Rattle.front_core.proofs.Laws.{next_kept, kept_states, may_be_logged, gave_dropped, built_weight, built_blocks}
 use Rattle.front_core.proofs.Told.{weight_told, rows_told, sum_reverse}
 use Rattle.front_core.proofs.Turning.{dropped_row}
 use Rattle.front_core.proofs.Viewed.{known}
@@ -169,14 +169,12 @@ dense_many t n dense =
     by q l None is = absurd (dense.below q l is)
     by q l (Some r) is = found_key q r (entries t) (sym (get-entries t q) ∙ is)
 
--- the next serial of an opening is at most the most inodes that an image may have
-pub start_low : (sizes : Sizes) (blocks : ℕ) (t : Rows) (inodes : List ℕ) → good_inodes blocks sizes.inodes ≡ true → IsPlain t → HaveInodes sizes.inodes inodes t → IsDense t (length inodes)
-    → (now_of sizes t []).next ≤ 8192
-start_low sizes blocks t inodes good plain have dense =
-    let a = (empty_kept sizes t inodes plain have dense).listed in
-    let b = dense_many t (length inodes) dense in
-    let d = have.few in
-    let f = few_inodes blocks sizes.inodes good in omega (arith, a, b, d, f)
+-- an opening has at most as many serials as an image may have inodes
+pub few_serials : (blocks count : ℕ) (t : Rows) (inodes : List ℕ) → good_inodes blocks count ≡ true → HaveInodes count inodes t → IsDense t (length inodes) → length inodes ≤ 8192
+few_serials blocks count t inodes good have dense =
+    let a = dense_many t (length inodes) dense in
+    let b = have.few in
+    let d = few_inodes blocks count good in omega (arith, a, b, d)
 
 -- a charge by its parts
 abbrev costs : ℕ → ℕ → ℕ → Charge
@@ -185,13 +183,30 @@ costs a b c = record { weight = a; gave_blocks = b; gave_rows = c }
 kept_cost : (cost : Charge) (rows : ℕ) → cost.weight ≡ 512 → cost.gave_blocks ≡ 0 → rows ≡ cost.gave_rows → weight_kept cost rows
 kept_cost cost rows p q r = ap (λ z. costs z cost.gave_blocks cost.gave_rows) p ∙ ap (λ z. costs 512 z cost.gave_rows) q ∙ ap (λ z. costs 512 0 z) (sym r)
 
-makes_one : (u : Update) → makes u ≤ 1
+pub makes_one : (u : Update) → makes u ≤ 1
 makes_one (Make dir name id d) = omega arith
 makes_one (Write id off bytes) = omega arith
 makes_one (Resize id len) = omega arith
 makes_one (Remove dir name id stays) = omega arith
 makes_one (Move dir name to_dir to_name id d r stays) = omega arith
 makes_one (Release id) = omega arith
+
+-- the next serial is small behind an update too
+pub next_small : (sizes : Sizes) (t : Rows) (h : List Entry) (old : State) → IsStateOf sizes t h old → (u : Update) → old.next + makes u < 2 ^ 32
+next_small sizes t h old st u = (let a = makes_one u in let b = st.few in let d = st.short in omega (arith, a, b, d))
+
+-- and so it is behind each call: it makes at most one row
+made_one : (o : Option Update) → made_by o ≤ 1
+made_one None = omega arith
+made_one (Some u) = makes_one u
+
+pub next_stays : (sizes : Sizes) (t : Rows) (h : List Entry) (e : Entry) → (now_of sizes t h).next ≤ 8192 + length h → (now_of sizes t (h ++ e ∷ [])).next ≤ 8192 + length (h ++ e ∷ [])
+next_stays sizes t h e most =
+    let n = now_of sizes t h in
+    let a = made_one e.update in
+    let b = length-append h (e ∷ []) in
+    let d : (now_of sizes t (h ++ e ∷ [])).next ≡ n.next + made_by e.update = ap (λ z. z.next) (now_more sizes (start t) h e) in
+    omega (arith, most, a, b, d)
 
 -- ---- the call
 
@@ -239,13 +254,6 @@ module _ (sizes : Sizes) (t : Rows) (h : List Entry) (actor : ℕ) (c : Command)
       let r = row_of_given all j (dropped u) p in
       let row : IsRow n.tree r.0 = dropped_row n.tree u (planned.ready u is).fits r.0 r.1 in
       subst (λ z. z < sizes.inodes) r.2 (have.there r.0 row.0 row.1)
-
-  -- where the next serial is at most so many above the calls, it stays so, and is small
-  pub next_small : n.next ≤ 8192 + length h → n.next + makes u < 2 ^ 32
-  next_small most = (let a = makes_one u in let b = st.few in omega (arith, most, a, b))
-
-  pub next_stays : n.next ≤ 8192 + length h → (entered_by sizes n e).next ≤ 8192 + length (h ++ e ∷ [])
-  next_stays most = (let a = makes_one u in let b = length-append h (e ∷ []) in let d : (entered_by sizes n e).next ≡ n.next + makes u = ap (λ o. n.next + made_by o) is in omega (arith, most, a, b, d))
 
   module _ (low : makes u ≡ 1 → IsLowestFree sizes.inodes all n.tree rest i) where
     lowest_next : HasLowestIf sizes.inodes (with_inode e.update i old.inodes.items) n.tree (entered_by sizes n e).unsealed e.update

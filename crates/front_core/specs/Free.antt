@@ -10,6 +10,7 @@ use Rattle.free_maps.specs.Maps.{is_set}
 use Rattle.image_model.specs.Carrying.{inode_in}
 use Rattle.cross_dep.specs.Books.{has_bit}
 use Rattle.front_laws.specs.Inodes.{given, has, IsFree}
+use Rattle.front_laws.specs.Owned.{AreOwned}
 
 -- How many inodes there are, the bitmap of those that are taken, the inodes that each stream gave up and has not sealed, and how many its
 -- memory has places for.
@@ -41,6 +42,17 @@ pub record AreTaken (count : ℕ) (inodes : List ℕ) (t : Rows) (unsealed : Lis
 -- the updates of the streams that aren't named by a bit of a number: of (1, u), (2, v) with 4 it is (1, u)
 abbrev pub but_of : ℕ → List (ℕ × Charged) → List (ℕ × Charged)
 but_of bits unsealed = filter (λ e. not (has_bit bits e.0)) unsealed
+
+-- One inode from 2 on below the count is free once the streams are sealed that are named by a bit: in the example 4 is, whether or not
+-- stream 1 is sealed.
+pub record IsOneFree (bits : ℕ) (taken : Taken) : Type 0 where
+  pub count : ℕ
+  pub inodes : List ℕ
+  pub t : Rows
+  pub unsealed : List (ℕ × Charged)
+  pub owned : AreOwned inodes t unsealed
+  pub taken_ : AreTaken count inodes t unsealed taken
+  pub one : ((i : ℕ) → 2 ≤ i → i < count → IsFree inodes t (but_of bits unsealed) i → ⊥) → ⊥
 
 -- a row that an update makes has the last inode of the list, which is free from 2 on below the count
 abbrev pub MakesTheLast : ℕ → List ℕ → Rows → List (ℕ × Charged) → Update → Type 0

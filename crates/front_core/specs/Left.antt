@@ -1,5 +1,5 @@
 -- What the calls of a history left, as a front keeps it, and what a call makes of it.
-use Rattle.std.specs.Prelude.{◌≡◌, ℕ, ◌<◌, ◌≤◌, Bool, true, false, if◌then◌else◌, ◌==◌, Option, None, Some, List, [], ◌∷◌, ◌++◌, length, map, slice_index}
+use Rattle.std.specs.Prelude.{◌≡◌, ℕ, ◌+◌, ◌<◌, ◌≤◌, Bool, true, false, if◌then◌else◌, ◌==◌, Option, None, Some, List, [], ◌∷◌, ◌++◌, length, map, slice_index}
 use Rattle.std.specs.List.{filter}
 use Rattle.block_layout.specs.Sizes.{good_inodes}
 use Rattle.stream_cuts.specs.Streams.{Step, Seal, Enter}
@@ -32,11 +32,13 @@ pub record IsLeft (sizes : Sizes) (n : Now) (s : State) : Type 0 where
   pub pending : IsPendingOf sizes.inodes s.inodes.items n.tree n.unsealed s.pending
   pub seals : s.pending.txns.seals ≡ n.seals
 
--- A history of at most 1,048,576 calls is kept on the tree of opening t, and the state is what it left.
+-- A history of at most 1,048,576 calls is kept on the tree of opening t, and the state is what it left. The tree of opening has at most
+-- 8,192 rows, and each call makes at most one: so serials stay far below 2^32.
 pub record IsStateOf (sizes : Sizes) (t : Rows) (h : List Entry) (s : State) : Type 0 where
   pub kept : IsKept sizes t s.inodes.items h
   pub left : IsLeft sizes (now_of sizes t h) s
   pub few : length h ≤ 1048576
+  pub short : s.next ≤ 8192 + length h
   pub good : (blocks : ℕ) × (good_inodes blocks sizes.inodes ≡ true)
 
 -- it is what some history left

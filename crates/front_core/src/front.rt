@@ -67,9 +67,7 @@ impl Front {
         requires limit { (1 ≤ limit) × (limit ≤ 1048576) }
         ensures { IfOk result (λ front. front ≡ new_front geometry.now limit tree inodes) }
     {
-        let Ok(next) = u32::try_from(inodes.all().len()) else {
-            return Err(AllocError);
-        };
+        let next = inodes.all().len() as u32;
         let state = State {
             tree: tree.copy(alloc)?,
             next,

@@ -20,7 +20,7 @@ ghost use Rattle.front_laws.specs.Batches.{its_records};
 ghost use Rattle.front_laws.specs.Inodes.{dropped, given_by, has, left_out, with_inode, IsLowestFree};
 ghost use Rattle.front_laws.specs.Kept.{is_answered, now_of};
 ghost use Rattle.front_laws.specs.Owned.{AreOwned};
-ghost use Rattle.front_core.specs.Free.{AreTaken, but_of, given_at};
+ghost use Rattle.front_core.specs.Free.{AreTaken, IsOneFree, but_of, given_at};
 ghost use Rattle.front_core.specs.Fronts.{sizes_of};
 ghost use Rattle.front_core.specs.Pending.{IsHeld, IsDue, IsAsBefore, AreSealed};
 ghost use Rattle.front_core.specs.Entering.{IsReadyFor, IsEnteringOf, MayEnter, HasEntered};
@@ -176,7 +176,7 @@ impl State {
             → IsMade (sizes_of geometry.now) t h (entry_of (sizes_of geometry.now) (now_of (sizes_of geometry.now) t h) actor command.now) self.old self.new) }
         ensures same { OnErr result (IsSameState self.old self.new) }
     {
-        let next = self.next_behind(update)?;
+        let next = self.next + rows_made(update);
         let listed = self.inodes.len();
         self.list_inode(plan.sealed(), update)?;
         match self.prepare(alloc, geometry, plan, update) {
@@ -192,15 +192,10 @@ impl State {
         }
     }
 
-    /// The serial of the next new row behind an update. There are 2^32 serials.
-    fn next_behind(&self, update: &Update) -> Result<u32, NoMemory>
-        ensures { IfOk result (λ n. n ≡ self.now.next + makes update.now) }
-    {
-        self.next.checked_add(rows_made(update)).ok_or(AllocError)
-    }
-
-    /// Lists the inode of a row that an update makes: the lowest that is free once these streams are sealed.
+    /// Lists the inode of a row that an update makes: the lowest that is free once these streams are sealed. Without memory all is as
+    /// before.
     fn list_inode(&mut self, sealed: u64, update: &Update) -> Result<(), NoMemory>
+        requires { makes update.now ≡ 1 → IsOneFree sealed self.old.pending.free }
         ensures tree { self.new.tree ≡ self.old.tree }
         ensures next { self.new.next ≡ self.old.next }
         ensures streams { self.new.streams ≡ self.old.streams }
@@ -213,9 +208,7 @@ impl State {
         if rows_made(update) == 0 {
             return Ok(());
         }
-        let Some(inode) = self.pending.free.lowest(sealed) else {
-            return Err(AllocError);
-        };
+        let inode = self.pending.free.lowest(sealed).unwrap();
         self.inodes.push(inode)?;
         Ok(())
     }
@@ -232,6 +225,7 @@ impl State {
         requires apart { has_bit plan.now.forced plan.now.stream ≡ false }
         requires applies { IsTrue (applies self.old.tree update.now) }
         requires serials { AreSerialsBelow (length self.old.inodes.items) update.now }
+        requires built { is_built update.now ≡ true }
         ensures told { IfOk result (IsEnteringOf geometry.now.inodes self.old.inodes.items plan.now.stream update.now) }
         ensures ready { IfOk result (λ e. IsReadyFor e update.now self.new.pending) }
         ensures due { OnOk result ((s : ℕ) → s < 64 → has_bit plan.now.forced s ≡ true → (account_at self.old.pending.txns.accounts s).is_open ≡ true → IsDue self.new.pending s) }
@@ -258,15 +252,14 @@ impl State {
         stream: u8,
         update: &Update,
     ) -> Result<Entering, NoMemory>
-        requires { AreSerialsBelow (length self.now.inodes.items) update.now }
+        requires serials { AreSerialsBelow (length self.now.inodes.items) update.now }
+        requires built { is_built update.now ≡ true }
         ensures stream { IfOk result (λ e. e.stream ≡ stream) }
         ensures rows { IfOk result (λ e. e.gave_rows ≡ length (dropped update.now)) }
         ensures recs { IfOk result (λ e. e.recs ≡ its_records geometry.now.inodes self.now.inodes.items update.now) }
         ensures ops { IfOk result (λ e. e.ops ≡ ops_of self.now.inodes.items update.now) }
     {
-        let Some(recs) = records_of(alloc, geometry.inodes, &self.inodes, update)? else {
-            return Err(AllocError);
-        };
+        let recs = records_of(alloc, geometry.inodes, &self.inodes, update)?.unwrap();
         let ops = ops_of(alloc, &self.inodes, update)?;
         Ok(Entering {
             stream,

@@ -63,7 +63,7 @@ pub record IsHeld (inodes : List ℕ) (t : Rows) (h : List (ℕ × Charged)) : T
   pub nodes : (e : ℕ × Charged) → Among e h → (x : ℕ) → HasNode e.1.0 x → IsThere t x ⊎ IsDroppedIn h e.0 x
 
 -- the inode of a new row is no row's
-fresh_of : (count : ℕ) (inodes : List ℕ) (t : Rows) (u : Update) → HasItsInode count inodes t u → (x y : ℕ) → IsThere t x → Makes u y → inode_in inodes x ≢ inode_in inodes y
+pub fresh_of : (count : ℕ) (inodes : List ℕ) (t : Rows) (u : Update) → HasItsInode count inodes t u → (x y : ℕ) → IsThere t x → Makes u y → inode_in inodes x ≢ inode_in inodes y
 fresh_of count inodes t u a x y r k =
     let made = only_make u y k in
     let has : HasItsInode count inodes t (Make made.0 made.1 y made.2) = subst (HasItsInode count inodes t) made.3 a in

@@ -33,3 +33,10 @@ pub mod KeptNow
 pub mod Starting
 pub mod MoreCalls
 pub mod BatchActs
+pub mod OpenSeals
+pub mod EmptyOps
+pub mod Covers
+pub mod CoverExamples
+pub mod FileSets
+pub mod FilesHeld
+pub mod Contents

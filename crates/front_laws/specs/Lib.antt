@@ -4,3 +4,5 @@ pub mod Batches
 pub mod Owned
 pub mod Logging
 pub mod Laws
+pub mod Covers
+pub mod Contents

@@ -1,5 +1,7 @@
 //! The laws: each is the contract of a function that changes nothing.
 ghost use Rattle.front_laws.specs.Laws.{HistoriesLeaveKeptStates, EmptyHistoriesAreKept, NextCallsAreKept, AFreeInodeIsThere, RowsFitBehindSeals, MoreInodesLeaveUpdates, UpdatesMayBeLogged, BatchesCarryOn, LongerKeepsBatches, SealsMakeBatches, BatchesHaveTheirSize, BatchesAct};
+ghost use Rattle.front_laws.specs.Covers.{BatchesAreCovered};
+ghost use Rattle.front_laws.specs.Contents.{OperationsCarryOn};
 
 /// A kept history leaves a tree whose rows have inodes of their own, and unsealed updates that own theirs.
 pub fn histories_leave_kept_states()
@@ -67,4 +69,14 @@ pub fn batches_have_their_size()
 #[tactic(auto, using(crate::proofs::BatchActs::batches_act))]
 pub fn batches_act()
     ensures { BatchesAct }
+{}
+
+/// The weight of a batch covers it.
+pub fn batches_are_covered()
+    ensures { BatchesAreCovered }
+{}
+
+/// The operations of a batch leave the files of the volume with its records.
+pub fn operations_carry_on()
+    ensures { OperationsCarryOn }
 {}

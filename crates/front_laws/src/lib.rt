@@ -24,5 +24,7 @@ mod tests {
         seals_make_batches();
         batches_have_their_size();
         batches_act();
+        batches_are_covered();
+        operations_carry_on();
     }
 }

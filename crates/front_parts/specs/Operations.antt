@@ -1,5 +1,5 @@
 -- The operations on the contents of files that updates make.
-use Rattle.std.specs.Prelude.{ℕ, Bool, true, false, Option, None, Some, List, [], ◌∷◌, ◌++◌}
+use Rattle.std.specs.Prelude.{ℕ, Bool, true, false, Option, None, Some, List, [], ◌∷◌}
 use Rattle.file_bodies.specs.declared.ops.BodyOp.{BodyOp}
 use Rattle.file_bodies.specs.declared.ops.BodyOp.TheVariants as ops
 use Rattle.tree_model.specs.declared.rows.Update.{Update}

@@ -33,10 +33,12 @@ pub fn records_of(
             let recs = made(alloc, inodes_of_image, inode, parent, name, *is_dir)?;
             Ok(Some(recs))
         }
-        Update::Remove { dir, id, stays, .. } => {
-            if *stays {
-                return Ok(None);
-            }
+        Update::Remove {
+            dir,
+            id,
+            stays: false,
+            ..
+        } => {
             let parent = inodes[*dir as usize];
             let inode = inodes[*id as usize];
             let recs = removed(alloc, inodes_of_image, inode, parent)?;
@@ -48,12 +50,9 @@ pub fn records_of(
             to_name,
             id,
             replaced,
-            stays,
+            stays: false,
             ..
         } => {
-            if *stays {
-                return Ok(None);
-            }
             let from = inodes[*dir as usize];
             let to = inodes[*to_dir as usize];
             let inode = inodes[*id as usize];
@@ -61,7 +60,7 @@ pub fn records_of(
             push_moved(&mut recs, alloc, inodes_of_image, inode, from, to, to_name)?;
             Ok(Some(recs))
         }
-        Update::Write { .. } | Update::Resize { .. } | Update::Release { .. } => Ok(None),
+        _ => Ok(None),
     }
 }
 

@@ -1,5 +1,5 @@
 use Rattle.tree_model.specs.Rows.{Rows}
-use Rattle.std.proofs.Common.{◌≡◌, ◌≤◌, ◌<◌, ◌^◌, List, ℕ, length, arith, rules, refl, sym, ap, ◌∙◌, subst}
+use Rattle.std.proofs.Common.{◌≡◌, ◌≤◌, List, ℕ, length, arith, rules, sym, ap, ◌∙◌, subst}
 use Rattle.block_layout.specs.declared.geometry.Geometry.{Geometry}
 use Rattle.gate_journal.specs.Halves.{size_of}
 use Rattle.gate_journal.specs.Runs.{Quiet}

@@ -1,9 +1,9 @@
-use Rattle.std.proofs.Common.{◌≡◌, ◌+◌, ◌++◌, ◌≤◌, ◌<◌, ℕ, List, [], length, true, false, inl, inr, sym, ap, ◌∙◌, refl, subst, arith, cond}
+use Rattle.std.proofs.Common.{◌≡◌, ◌+◌, ◌++◌, ◌≤◌, ◌<◌, ℕ, List, [], ◌∷◌, length, true, false, inl, sym, ap, ◌∙◌, refl, subst, arith, cond}
 use Rattle.std.specs.declared.result.Result.{Result}
 use Rattle.ccfs_base.specs.Fits.{fits_command}
 use Rattle.std.specs.declared.result.Result.TheVariants.{Err}
 use Rattle.std.specs.declared.option.Option.TheVariants.{Some}
-use Rattle.std.proofs.lemmas.List.{append-nil}
+use Rattle.std.proofs.lemmas.List.{append-nil, length-append}
 use Rattle.disk_model.proofs.Runs.{elapses_start}
 use Rattle.tree_model.specs.declared.rows.Entry.{Entry}
 use Rattle.tree_model.specs.Rows.{Rows}
@@ -15,7 +15,7 @@ use Rattle.gate_journal.specs.Halves.{journal_of}
 use Rattle.image_model.specs.Checks.{is_last}
 use Rattle.atomic_volume.specs.Held.{contents_by}
 use Rattle.recovery.specs.Recovering.{picture_shown}
-use Rattle.front_core.specs.Fronts.{Fronted, sizes_of, next_history, seals_of}
+use Rattle.front_core.specs.Fronts.{Fronted, sizes_of, next_entry, next_history, seals_of}
 use Rattle.ccfs_top.specs.declared.session.StepFault.{StepFault}
 use Rattle.ccfs_top.specs.declared.stop.Stop.{Stop}
 use Rattle.ccfs_top.specs.declared.stop.Stop.TheVariants.{NotBuilt}
@@ -23,16 +23,16 @@ use Rattle.script_text.specs.declared.scripts.Call.{Call}
 use Rattle.ccfs_top.specs.Ends.{joined}
 use Rattle.ccfs_top.specs.Images.{Image}
 use Rattle.ccfs_top.specs.Left.{Kept, Within}
-use Rattle.ccfs_top.specs.Runs.{further, image_by, history, made_over, reply_lines, replies, ran}
-use Rattle.ccfs_top.specs.Stages.{Room, is_blocked, is_sync_form, called, room_in}
-use Rattle.ccfs_top.specs.Sessions.{Settled, HasUsed, ShowsOneOf, IsStepped, Shows, cut_tree, written_by}
-use Rattle.ccfs_top.specs.Reached.{history_to, Reached}
+use Rattle.ccfs_top.specs.Runs.{further, image_by, history, reply_lines, replies, ran}
+use Rattle.ccfs_top.specs.Stages.{is_blocked, is_sync_form, called, room_in}
+use Rattle.ccfs_top.specs.Sessions.{HasUsed, cut_tree}
+use Rattle.ccfs_top.specs.Reached.{Reached}
 use Rattle.ccfs_top.proofs.Committing.{settled_shows}
 use Rattle.ccfs_top.proofs.Steps.{acknowledged_by, blocked_made, blocked_stop, reached_start, reached_on, all_made, none_stopped}
 use Rattle.ccfs_top.proofs.Ending.{first_lines, line_next, all_lines, all_replies, comes_halted, run_decides, sink_decides, step_grew, write_grew, text_on, further_none, step_kinds, write_kinds, no_sink, no_disk}
 use Rattle.ccfs_top.proofs.Keeping.{kept_on, kept_all}
 use Rattle.ccfs_top.proofs.Leaving.{leaves_wider}
-use Rattle.ccfs_top.proofs.Going.{by_image, by_sizes, within_step}
+use Rattle.ccfs_top.proofs.Going.{by_sizes, within_step}
 use Rattle.ccfs_top.proofs.Viewing.{shows_to}
 use Rattle.ccfs_top.proofs.run.perform_all.Goals as goal
 
@@ -52,6 +52,8 @@ loop-call-init g c =
       sizes = ap (λ (z : Fronted). z.sizes) new;
       opening = refl;
       handed = ap (λ (z : Fronted). z.handed) new ∙ sym none;
+      count = ap (λ (z : List Entry). length z) empty;
+      limit = ap (λ (z : Fronted). z.limit) new;
       first_number = refl;
       settled = c.requires.settled;
       used = subst (λ (z : ℕ). HasUsed (room_in (journal_of v.half)) first.front z v.half) (sym none) (record { used = refl; fitted = refl });
@@ -193,6 +195,8 @@ loop-call-preserved g c =
       sizes = done.sizes ∙ v.sizes;
       opening = done.opening ∙ v.opening;
       handed = done.handed;
+      count = omega (arith, v.count, length-append h (next_entry s.front call.actor call.command ∷ []), ap (λ (z : List Entry). length z) done.entries);
+      limit = done.limit ∙ v.limit;
       first_number = c.in-Ok.ensures.first ∙ v.first_number;
       settled = c.in-Ok.ensures.settled;
       used = c.in-Ok.ensures.used image.room v.used;
@@ -278,3 +282,8 @@ pub step-requires-clause-fits : goal.step-requires-clause-fits
 step-requires-clause-fits g c =
     let call = c.call-item.result in
     subst (λ (z : Call). fits_command z.command ≡ true) (sym c.call-item.is) (c.requires.fits c.loop-call.call-index call c.loop-call-test.true)
+
+pub step-requires-clause-room : goal.step-requires-clause-room
+step-requires-clause-room g c =
+    let v = c.loop-call.invariant in let few = c.requires.few in let lt = c.loop-call-test.true in
+    omega (arith, v.count, v.limit, few, lt)

@@ -1,5 +1,4 @@
-use Rattle.std.proofs.Common.{◌≡◌, ◌⊎◌, ◌≤◌, ◌++◌, true, false}
-use Rattle.history_model.specs.Histories.{seal_count, start}
+use Rattle.std.proofs.Common.{◌≡◌, ◌⊎◌, ◌≤◌, ◌++◌, length, true, false}
 use Rattle.gate_journal.specs.Halves.{journal_of}
 use Rattle.gate_journal.specs.Runs.{LeavesBy}
 use Rattle.image_model.specs.Checks.{is_last}
@@ -20,6 +19,8 @@ invariant-loop-call g l = let first = l.initial.session in let s = l.session in 
   sizes : s.front.sizes ≡ sizes_of first.volume.geometry;
   opening : s.front.opening ≡ first.front.opening;
   handed : s.front.handed ≡ s.written;
+  count : length s.front.entries ≡ l.call-index;
+  limit : s.front.limit ≡ 1048576;
   first_number : s.first ≡ first.first;
   settled : Settled v.geometry v.volume.items s.metadata s.front s.first s.written;
   used : HasUsed (room_in (journal_of first.volume.half)) s.front s.written v.half;

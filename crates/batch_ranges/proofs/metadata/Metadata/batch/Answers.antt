@@ -1,10 +1,9 @@
-use Rattle.std.proofs.Common.{◌≡◌, ℕ, ◌+◌, ◌≤◌, ◌++◌, List, length, arith, ap, sym, subst, ◌∙◌}
-use Rattle.gate_journal.specs.declared.batches.Range.{Range}
+use Rattle.std.proofs.Common.{◌≡◌, ℕ, ◌≤◌, ◌++◌, List, length, arith, ap, sym, subst, ◌∙◌}
 use Rattle.delta_log.proofs.Records.{all_recorded_length}
 use Rattle.ccfs_base.specs.Places.{IsInside}
 use Rattle.ccfs_base.specs.declared.records.Rec.{Rec}
 use Rattle.ccfs_base.specs.Records.{acts_at, recorded, all_recorded, AreInside}
-use Rattle.batch_ranges.specs.Ranges.{left_by, number_record, ranges_by, metadata_after}
+use Rattle.batch_ranges.specs.Ranges.{left_by, ranges_by}
 use Rattle.batch_ranges.proofs.Batching.{ranges_batched, batched_size, batched_stand}
 use Rattle.batch_ranges.proofs.metadata.Metadata.batch.Goals as goal
 

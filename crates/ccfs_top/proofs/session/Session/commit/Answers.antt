@@ -1,25 +1,17 @@
-use Rattle.std.proofs.Common.{◌≡◌, ⊎_elim, ℕ, ◌+◌, ◌%◌, ◌^◌, ◌≤◌, suc, true, List, length, arith, rules, refl, sym, ap, ◌∙◌, subst}
-use Rattle.std.specs.declared.option.Option.TheVariants.{Some}
-use Rattle.std.specs.List.{All}
+use Rattle.std.proofs.Common.{◌≡◌, ⊎_elim, ℕ, ◌+◌, ◌%◌, ◌^◌, ◌≤◌, true, List, length, arith, rules, refl, sym, ap, ◌∙◌, subst}
 use Rattle.std.proofs.lemmas.Bool.{eq-eqb}
-use Rattle.block_layout.specs.declared.geometry.Geometry.{Geometry}
 use Rattle.ccfs_base.specs.declared.records.Rec.{Rec}
 use Rattle.ccfs_base.specs.Records.{AreInside}
-use Rattle.gate_journal.specs.declared.batches.Batch.{Batch}
-use Rattle.gate_journal.specs.declared.batches.Range.{Range}
-use Rattle.gate_journal.specs.Batches.{Stands}
 use Rattle.gate_journal.specs.Journal.{Journal}
-use Rattle.gate_journal.specs.Halves.{size_of, journal_of, fits, MayFollow}
+use Rattle.gate_journal.specs.Halves.{size_of, journal_of, fits}
 use Rattle.atomic_volume.specs.Held.{contents_by}
 use Rattle.atomic_volume.specs.Commits.{committed}
 use Rattle.atomic_volume.specs.Opening.{Contents, put_on}
 use Rattle.atomic_volume.specs.declared.fault.VolumeFault.TheVariants.{Device, NoMemory}
 use Rattle.image_model.specs.Checks.{is_last}
 use Rattle.batch_ranges.specs.Ranges.{ranges_by, metadata_after, batch_size, AreSome}
-use Rattle.tree_model.specs.Picture.{picture}
-use Rattle.recovery.specs.Recovering.{picture_shown}
 use Rattle.ccfs_top.specs.Runs.{further}
-use Rattle.ccfs_top.specs.Sessions.{Settled, cut_tree}
+use Rattle.ccfs_top.specs.Sessions.{cut_tree}
 use Rattle.ccfs_top.proofs.Rooms.{size_at, size_is}
 use Rattle.ccfs_top.proofs.Committing.{next_number, may_follow_on, no_room, room_left, settled_shows, contents_show, recs_at, recs_inside, hand_enough, hand_some, recs_some, settled_on, settled_at}
 use Rattle.ccfs_top.proofs.Writing.{few_seals}

@@ -1,14 +1,10 @@
-use Rattle.std.proofs.Common.{◌≡◌, ◌≤◌, ◌+◌, ℕ, List, Bool, true, false, cond, refl, sym, ap, ◌∙◌, subst, arith, rules}
-use Rattle.gate_journal.specs.Halves.{journal_of}
-use Rattle.gate_journal.specs.Runs.{LeavesBy}
-use Rattle.image_model.specs.Checks.{is_last}
-use Rattle.front_core.specs.Fronts.{Fronted, seals_of, next_history}
-use Rattle.ccfs_top.specs.Runs.{further}
-use Rattle.ccfs_top.specs.Stages.{Room, is_sync_form, is_blocked}
-use Rattle.ccfs_top.specs.Sessions.{Settled, HasUsed, ShowsOneOf, IsStepped, all_fit}
+use Rattle.std.proofs.Common.{◌≡◌, false, sym, ◌∙◌, arith, rules}
+use Rattle.front_core.specs.Fronts.{seals_of}
+use Rattle.ccfs_top.specs.Stages.{is_sync_form}
+use Rattle.ccfs_top.specs.Sessions.{ShowsOneOf}
 use Rattle.ccfs_top.proofs.Committing.{settled_shows}
-use Rattle.ccfs_top.proofs.Leaving.{stays_shown, leaves_join, leaves_wider}
-use Rattle.ccfs_top.proofs.Stepping.{IsLonger, acted_longer, settled_acted, settled_asked, asked_of, shows_acted, not_blocked, sync_blocked, unanswered_blocked, used_longer, all_fit_when, stepped_sync, stepped_other}
+use Rattle.ccfs_top.proofs.Leaving.{stays_shown, leaves_wider}
+use Rattle.ccfs_top.proofs.Stepping.{acted_longer, settled_acted, settled_asked, asked_of, shows_acted, not_blocked, sync_blocked, unanswered_blocked, used_longer, all_fit_when, stepped_sync, stepped_other}
 use Rattle.ccfs_top.proofs.session.Session.step.Goals as goal
 
 -- ---- where the front refuses
@@ -21,8 +17,8 @@ returns-in-Err-NotBuilt-clause-moments g c = λ told.
     (settled_shows v.geometry v.half v.volume.items s.metadata (asked_of s.front actor command) s.first s.written there c.requires.last)
     v.disk (v.sound told c.requires.working) s.written (seals_of (asked_of s.front actor command)) (omega arith) there.few (g.met.D.Disk.earlier told v.disk) (g.met.D.Disk.only_now told v.disk)
 
-pub returns-in-Err-HistoryFull-clause-moments : goal.returns-in-Err-HistoryFull-clause-moments
-returns-in-Err-HistoryFull-clause-moments g c = λ told.
+pub returns-in-Err-NoMemory-clause-moments : goal.returns-in-Err-NoMemory-clause-moments
+returns-in-Err-NoMemory-clause-moments g c = λ told.
     let s = c.args.self.now in let v = s.volume in let actor = c.args.actor in let command = c.args.command.now in
     let there = settled_asked v.geometry v.volume.items s.metadata s.front s.first s.written actor command c.requires.settled in
     stays_shown g.D.Disk v.geometry v.half v.volume.items (asked_of s.front actor command) s.first s.written
@@ -33,6 +29,12 @@ pub returns-in-Err-NotBuilt-clause-blocked : goal.returns-in-Err-NotBuilt-clause
 returns-in-Err-NotBuilt-clause-blocked g c = λ room so_far is.
     let f = c.args.self.now.front in
     unanswered_blocked f.sizes room f.opening f.entries c.args.actor c.args.command.now (c.act.ensures.unbuilt (search rules))
+
+-- the history isn't full
+pub unreachable-requires : goal.unreachable-requires
+unreachable-requires g c =
+    let full = (c.act.ensures.full c.in-Err-HistoryFull.field-0-0 (search rules)).0 in let room = c.requires.room in
+    omega (arith, full, room)
 
 -- ---- a call that isn't a sync form
 

@@ -1,19 +1,12 @@
-use Rattle.std.proofs.Common.{◌≡◌, ◌≤◌, ◌+◌, ℕ, List, length, true, refl, sym, ap, ◌∙◌, subst, arith, rules}
+use Rattle.std.proofs.Common.{◌+◌, ℕ, refl, sym, ap, ◌∙◌, subst, arith, rules}
 use Rattle.std.specs.Prelude.{IsErrOf}
 use Rattle.ccfs_top.specs.declared.session.StepFault.TheVariants.{NotBuilt}
-use Rattle.fault_counts.specs.Counts.{Rose}
-use Rattle.file_bodies.specs.declared.batches.Sealed.{Sealed}
-use Rattle.stream_cuts.specs.Cuts.{batch}
-use Rattle.gate_journal.specs.Halves.{journal_of}
-use Rattle.gate_journal.specs.Runs.{LeavesBy}
-use Rattle.history_model.specs.Histories.{start, charged_in}
 use Rattle.front_core.specs.Fronts.{Fronted, seals_of}
-use Rattle.ccfs_top.specs.Stages.{Room, has_room, room_in, batch_bytes}
 use Rattle.ccfs_top.specs.Sessions.{Settled, HasUsed, ShowsOneOf, all_fit}
 use Rattle.ccfs_top.proofs.Rooms.{has_used_more, not_all_fit}
 use Rattle.ccfs_top.proofs.Committing.{settled_shows}
 use Rattle.ccfs_top.proofs.Leaving.{stays_shown, leaves_join, leaves_wider}
-use Rattle.ccfs_top.proofs.Writing.{handed_to, settled_handed, used_handed, shows_all, next_is, next_more, all_written}
+use Rattle.ccfs_top.proofs.Writing.{settled_handed, used_handed, shows_all, next_is, next_more, all_written}
 use Rattle.ccfs_top.proofs.session.Session.write_all.Goals as goal
 
 pub loop-batch-init : goal.loop-batch-init

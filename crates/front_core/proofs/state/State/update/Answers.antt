@@ -1,4 +1,4 @@
-use Rattle.std.proofs.Common.{◌≡◌, ℕ, ◌<◌, List, length, sym, ap, subst, ◌∙◌}
+use Rattle.std.proofs.Common.{◌≡◌, ℕ, ◌+◌, ◌<◌, List, length, sym, ap, subst, ◌∙◌, arith}
 use Rattle.std.specs.Prelude.{Some, IsTrue, take}
 use Rattle.tree_model.specs.Rows.{Rows}
 use Rattle.tree_model.specs.Tests.{applies}
@@ -16,7 +16,8 @@ use Rattle.front_core.specs.Free.{AreTaken, but_of}
 use Rattle.front_core.specs.Entering.{IsEnteringOf, HasEntered}
 use Rattle.front_core.specs.Pending.{IsAsBefore}
 use Rattle.front_core.proofs.Viewed.{known}
-use Rattle.front_core.proofs.Next.{left_next, kept_next, serials_next, makes_last, given_next, may_enter, weighs_next}
+use Rattle.front_core.proofs.Next.{left_next, kept_next, serials_next, makes_last, given_next, may_enter, weighs_next, next_small}
+use Rattle.front_core.proofs.OneFree.{one_free}
 use Rattle.front_core.proofs.Made.{made_some}
 use Rattle.front_core.proofs.Updating.{listed_of, longer, owned_all, have_all, low_all, open_forced, open_own, held_all, counted, behind, place_behind, made_below, listed_off}
 use Rattle.front_core.proofs.state.State.update.Goals as goal
@@ -32,6 +33,25 @@ pub sealed-requires-clause-apart : goal.sealed-requires-clause-apart
 sealed-requires-clause-apart c =
     let o = c.requires.sound in
     (c.requires.plan o.0 o.1.0 o.1.1).apart c.args.update.now c.requires.is
+
+pub overflow_add-next : goal.overflow_add-next
+overflow_add-next c =
+    let o = c.requires.sound in
+    let small = next_small (sizes_of c.args.geometry.now) o.0 o.1.0 c.args.self.now o.1.1 c.args.update.now in
+    let made = c.rows_made.ensures in omega (arith, small, made)
+
+pub list_inode-requires : goal.list_inode-requires
+list_inode-requires c =
+    let o = c.requires.sound in
+    let t = o.0 in
+    let h = o.1.0 in
+    let st = o.1.1 in
+    let sizes = sizes_of c.args.geometry.now in
+    let plan = c.args.plan.now in
+    let planned = c.requires.plan t h st in
+    let u = c.args.update.now in
+    one_free sizes t h c.args.actor c.args.command.now c.args.self.now plan st (c.requires.actor, c.requires.fits) c.requires.built planned u (sym planned.update ∙ c.requires.is) c.sealed.result
+    (subst (λ z. z < 64) (sym planned.stream) ((known sizes t h c.args.self.now st).streams c.args.actor)) (planned.apart u c.requires.is) c.sealed.ensures.own c.sealed.ensures.others
 
 pub prepare-requires-clause-stream : goal.prepare-requires-clause-stream
 prepare-requires-clause-stream c =
@@ -78,6 +98,12 @@ prepare-requires-clause-serials c =
     let low64 : plan.stream < 64 = subst (λ z. z < 64) (sym planned.stream) ((known sizes t h old st).streams actor) in
     let low = low_all sizes t h actor cmd old plan st planned u i c.sealed.result low64 (planned.apart u c.requires.is) c.sealed.ensures.own c.sealed.ensures.others x.1.1 in
     subst (λ l. AreSerialsBelow (length l) u) (sym x.1.0) (serials_next sizes t h actor cmd old plan st may c.requires.built planned u is i low)
+
+pub prepare-requires-clause-built : goal.prepare-requires-clause-built
+prepare-requires-clause-built c =
+    let o = c.requires.sound in
+    let planned = c.requires.plan o.0 o.1.0 o.1.1 in
+    planned.built c.args.update.now (sym planned.update ∙ c.requires.is)
 
 pub enter-requires : goal.enter-requires
 enter-requires c =
@@ -163,7 +189,7 @@ returns-in-Ok-clause-made c t h st =
     (longer sizes t h actor cmd old plan st planned u i)
     (weighs_next sizes t h actor cmd old plan st may c.requires.built planned u is i)
     (c.enter.ensures.tree ∙ c.in-Ok.ensures.made ∙ ap (λ z. apply z u) c.in_ok-list_inode.ensures.tree)
-    c.in_ok-next.ensures
+    (ap (λ z. old.next + z) c.rows_made.ensures)
     (c.enter.ensures.streams ∙ c.in-Ok.ensures.streams ∙ c.in_ok-list_inode.ensures.streams)
     (c.enter.ensures.inodes ∙ listed)
 
