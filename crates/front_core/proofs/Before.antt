@@ -1,7 +1,7 @@
 -- What stays as only rooms and places change, and which streams may be sealed still.
 use Rattle.std.proofs.Common.{◌≡◌, ◌≢◌, ℕ, ◌<◌, ◌≤◌, inl, inr, List, [], ◌∷◌, ◌++◌, set, get_or, refl, sym, ap, subst, ◌∙◌, arith}
 use Rattle.std.specs.Prelude.{Bool, true, false, cond, not, ◌==◌, filter, slice_set}
-use Rattle.std.proofs.lemmas.Bool.{cases_eq, eqb-true, ne_eqb}
+use Rattle.std.proofs.lemmas.Bool.{eqb-true, ne_eqb}
 use Rattle.std.proofs.lemmas.List.{get_or-set_other}
 use Rattle.shared_meta.specs.Area as areas
 use Rattle.shared_meta.specs.Area.{Area, area, AreKept, IsPlaced, AreAsBefore, AreSameAreas}
@@ -28,16 +28,6 @@ pub record AreTxnsKept (old new : txns.Kept) : Type 0 where
 
 pub txns_same : (old new : txns.Kept) → new ≡ old → AreTxnsKept old new
 txns_same old new e = record {
-  accounts = ap (λ z. z.accounts) e;
-  ops = ap (λ z. z.ops) e;
-  gave_blocks = ap (λ z. z.gave_blocks) e;
-  gave_rows = ap (λ z. z.gave_rows) e;
-  seals = ap (λ z. z.seals) e;
-  queue = ap (λ z. z.queue) e;
-}
-
-pub txns_placed : (old new : txns.Kept) (s : ℕ) → new ≡ placed old s → AreTxnsKept old new
-txns_placed old new s e = record {
   accounts = ap (λ z. z.accounts) e;
   ops = ap (λ z. z.ops) e;
   gave_blocks = ap (λ z. z.gave_blocks) e;
@@ -76,9 +66,6 @@ pub record AreLogsKept (old new : Area) : Type 0 where
 pub logs_before : (old new : Area) → AreAsBefore old new → AreLogsKept old new
 logs_before old new b = record { base = b.base; ranges = b.ranges; deltas = b.deltas }
 
-pub logs_placed : (old new : Area) (s : ℕ) → IsPlaced old s new → AreLogsKept old new
-logs_placed old new s b = record { base = b.base; ranges = b.ranges; deltas = b.deltas }
-
 pub as_before : (old new : Pending) → AreLogsKept (area old.meta) (area new.meta) → AreTxnsKept old.txns new.txns → new.keys.marks ≡ old.keys.marks
     → ((count : ℕ) (inodes : List ℕ) (t : Rows) (unsealed : List (ℕ × Charged)) → AreTaken count inodes t unsealed old.free → AreTaken count inodes t unsealed new.free)
     → IsAsBefore old new
@@ -103,44 +90,6 @@ before_both a b c x y = record {
   accounts = y.accounts ∙ x.accounts;
   queue = y.queue ∙ x.queue;
   seals = y.seals ∙ x.seals;
-}
-
-pub before_none : (a : Pending) → IsAsBefore a a
-before_none a = record { kept = λ count inodes t unsealed of. of; held = λ us a. a; accounts = refl; queue = refl; seals = refl }
-
--- ---- streams that may be sealed
-
--- a place stays as another stream gets one
-pub due_placed : (old new : Pending) (s r : ℕ) → IsPlaced (area old.meta) s (area new.meta) → new.txns ≡ placed old.txns s → has_place new.txns s ≡ true → IsDue old r → IsDue new r
-due_placed old new s r logs txns there due = record {
-  open_ = ap (λ z. (account_at z.accounts r).is_open) txns ∙ due.open_;
-  log = elim (cases_eq r s) [
-    | inl e ↦ ap (area new.meta).places e ∙ logs.own
-    | inr ne ↦ logs.others r ne ∙ due.log
-  ];
-  batch = elim (cases_eq r s) [
-    | inl e ↦ ap (has_place new.txns) e ∙ there
-    | inr ne ↦ ap (λ z. has_place z r) txns ∙ get_or-set_other old.txns.places s r true false ne ∙ due.batch
-  ];
-}
-
--- and where the log alone got one
-pub due_log : (old new : Pending) (s r : ℕ) → IsPlaced (area old.meta) s (area new.meta) → new.txns ≡ old.txns → IsDue old r → IsDue new r
-due_log old new s r logs txns due = record {
-  open_ = ap (λ z. (account_at z.accounts r).is_open) txns ∙ due.open_;
-  log = elim (cases_eq r s) [
-    | inl e ↦ ap (area new.meta).places e ∙ logs.own
-    | inr ne ↦ logs.others r ne ∙ due.log
-  ];
-  batch = ap (λ z. has_place z r) txns ∙ due.batch;
-}
-
--- and where only rooms changed
-pub due_before : (old new : Pending) (r : ℕ) → AreAsBefore (area old.meta) (area new.meta) → new.txns.accounts ≡ old.txns.accounts → new.txns.places ≡ old.txns.places → IsDue old r → IsDue new r
-due_before old new r logs accounts places due = record {
-  open_ = ap (λ z. (account_at z r).is_open) accounts ∙ due.open_;
-  log = logs.places r ∙ due.log;
-  batch = ap (λ z. Rattle.std.specs.Prelude.slice_index_or z r false) places ∙ due.batch;
 }
 
 -- ---- as another stream is sealed

@@ -1,6 +1,6 @@
 -- The inodes that are kept as taken behind one more update.
 use Rattle.std.proofs.Common.{◌≡◌, ◌≢◌, ◌⊎◌, inl, inr, ℕ, ◌<◌, ◌≤◌, List, [], ◌∷◌, ◌++◌, append-nil, refl, sym, ap, subst, ◌∙◌}
-use Rattle.std.specs.Prelude.{Bool, true, false, ◌==◌, Option, None, Some, map, reverse}
+use Rattle.std.specs.Prelude.{Bool, true, false, ◌==◌, None, Some, map, reverse}
 use Rattle.std.specs.FinMap.{get}
 use Rattle.std.proofs.lemmas.Bool.{cases_eq, eqb-true, eq-eqb, ne_eqb, or_cases, or_left, or_right}
 use Rattle.std.proofs.lemmas.List.{reverse-append}
@@ -9,8 +9,10 @@ use Rattle.stream_cuts.specs.Streams.{keep_if, of_stream}
 use Rattle.tree_model.specs.declared.rows.Row.{Row}
 use Rattle.tree_model.specs.declared.rows.Update.{Update}
 use Rattle.tree_model.specs.declared.rows.Update.TheVariants.{Make, Write, Resize, Remove, Move, Release}
-use Rattle.tree_model.specs.Rows.{Rows, kind_of, place_of, place, kind, IsTree, IsEntry}
+use Rattle.tree_model.specs.declared.rows.Body.TheVariants.{Dir}
+use Rattle.tree_model.specs.Rows.{Rows, IsTree}
 use Rattle.tree_model.specs.Updates.{apply, Fits}
+use Rattle.tree_model.proofs.TreeKept.{tree_kept}
 use Rattle.tree_cuts.specs.Calls.{Charge, Charged}
 use Rattle.history_laws.proofs.Turns.{Turn, Same, Born, Dead, turn_of}
 use Rattle.image_model.specs.Carrying.{inode_in}
@@ -18,28 +20,22 @@ use Rattle.free_maps.specs.Maps.{is_set}
 use Rattle.carried_volumes.specs.Carried.{HaveInodes}
 use Rattle.front_laws.specs.Inodes.{has, dropped, given_by, given, IsFree}
 use Rattle.front_laws.specs.Owned.{IsRow, AreOwned}
+use Rattle.front_laws.proofs.Rows.{born_born}
+use Rattle.front_laws.proofs.Turning.{IsMade, row_stays, row_goes, row_came, row_made, dropped_row}
 use Rattle.front_core.specs.Free.{Taken, AreTaken, given_at}
-use Rattle.front_core.proofs.Turning.{IsMade, drops, dropped_by, row_stays, row_came, row_made, dropped_row, only_one, left_is}
 use Rattle.front_core.proofs.Given.{IsGivenIn, in_and_out, given_in, in_given, none_given, not_given, given_by_stream, stream_gave}
 
 -- ---- the rows that an update drops
 
-entry_apart : (t : Rows) (d : ℕ) (n : List ℕ) (x : ℕ) → IsTree t → IsEntry t d n x → x ≢ 0
-entry_apart t d n x tree p e = let z : ◌≡◌ {A = Option (ℕ × List ℕ)} None (Some (d, n)) = sym (ap place tree.root.1) ∙ subst (λ z. place_of t z ≡ Some (d, n)) e p in cc
-
--- none of them is the root
+-- none of them is the root, which stays one
 dropped_apart : (t : Rows) (u : Update) → IsTree t → Fits t u → (x : ℕ) → has x (dropped u) ≡ true → x ≢ 0
-dropped_apart t (Make dir name id d) tree f x p = absurd (cc)
-dropped_apart t (Write id off bytes) tree f x p = absurd (cc)
-dropped_apart t (Resize id len) tree f x p = absurd (cc)
-dropped_apart t (Remove dir name id stays) tree f x p = entry_apart t dir name x tree (subst (IsEntry t dir name) (left_is x id stays p).0 f.0)
-dropped_apart t (Move dir name to_dir to_name id d None stays) tree f x p = absurd (cc)
-dropped_apart t (Move dir name to_dir to_name id d (Some y) stays) tree f x p = entry_apart t to_dir to_name x tree (subst (IsEntry t to_dir to_name) (left_is x y stays p).0 f.4.0)
-dropped_apart t (Release id) tree f x p = λ e.
-    (let z : ◌≡◌ {A = Option Bool} (Some true) (Some false) = sym (ap kind tree.root.1) ∙ subst (λ z. kind_of t z ≡ Some false) (only_one x id p ∙ e) f.0 in cc)
+dropped_apart t u tree f x p =
+    let root = (tree_kept t u tree f).root in
+    let row : IsRow (apply t u) 0 = (record { parent = None; name = []; body = Dir root.0 }, root.1) in
+    λ e. row_goes t u x p (subst (IsRow (apply t u)) (sym e) row)
 
 -- an inode that it gives up is that of a row that it drops
-row_of_given : (inodes : List ℕ) (i : ℕ) (ds : List ℕ) → has i (map (inode_in inodes) ds) ≡ true → (y : ℕ) × (has y ds ≡ true) × (inode_in inodes y ≡ i)
+pub row_of_given : (inodes : List ℕ) (i : ℕ) (ds : List ℕ) → has i (map (inode_in inodes) ds) ≡ true → (y : ℕ) × (has y ds ≡ true) × (inode_in inodes y ≡ i)
 row_of_given inodes i [] p = absurd (cc)
 row_of_given inodes i (y ∷ ds) p = elim (or_cases (inode_in inodes y == i) (has i (map (inode_in inodes) ds)) p) [
   | inl q ↦ (y, or_left (y == y) (has y ds) (eq-eqb y y refl), eqb-true (inode_in inodes y) i q)
@@ -56,15 +52,12 @@ given_of_row inodes y (x ∷ ds) p = elim (or_cases (x == y) (has y ds) p) [
 
 -- ---- the row that an update makes
 
-same_born : (x y : ℕ) (b d : Bool) → Born x b ≡ Born y d → x ≡ y
-same_born x y b d p = cc
-
 module _ (u : Update) (dir : ℕ) (name : List ℕ) (id : ℕ) (b : Bool) (is : u ≡ Make dir name id b) where
   pub made_here : IsMade u id
   made_here = (b, ap turn_of is)
 
   pub made_alone : (x : ℕ) → IsMade u x → id ≡ x
-  made_alone x m = same_born id x b m.0 (sym (ap turn_of is) ∙ m.1)
+  made_alone x m = born_born (sym (ap turn_of is) ∙ m.1)
 
 -- any other update makes none
 pub no_maker : (u : Update) → ((dir : ℕ) (name : List ℕ) (id : ℕ) (b : Bool) → u ≡ Make dir name id b → ⊥) → (x : ℕ) → IsMade u x → ⊥
@@ -80,9 +73,10 @@ no_maker (Release id) n x m = let z : ◌≡◌ {A = Turn} (Dead id) (Born x m.0
 
 -- an update that gives up an inode makes none
 pub none_made : (inodes : List ℕ) (u : Update) (i x : ℕ) → given_by inodes u ≡ i ∷ [] → IsMade u x → ⊥
-none_made inodes u i x p m =
-    let none : given_by inodes u ≡ [] = ap (map (inode_in inodes)) (dropped_by u ∙ ap drops m.1) in
-    let z : ◌≡◌ {A = List ℕ} [] (i ∷ []) = sym none ∙ p in cc
+none_made inodes u i x p = no_maker u made x
+  where
+    made : (dir : ℕ) (name : List ℕ) (id : ℕ) (b : Bool) → u ≡ Make dir name id b → ⊥
+    made dir name id b is = let z : ◌≡◌ {A = List ℕ} [] (i ∷ []) = sym (ap (given_by inodes) is) ∙ p in cc
 
 module _ (count : ℕ) (inodes : List ℕ) (t : Rows) (unsealed : List (ℕ × Charged)) (s : ℕ) (u : Update) (cost : Charge)
     (tree : IsTree t) (have : HaveInodes count inodes t) (owned : AreOwned inodes t unsealed) (fits : Fits t u) where

@@ -1,15 +1,16 @@
 -- Which unsealed updates gave up an inode.
-use Rattle.std.proofs.Common.{◌≡◌, ◌≢◌, inl, inr, ℕ, List, [], ◌∷◌, ◌++◌, refl, sym, ap, subst, ◌∙◌}
-use Rattle.std.specs.Prelude.{Bool, true, false, not, ◌||◌, ◌==◌, reverse, filter}
+use Rattle.std.proofs.Common.{◌≡◌, inl, inr, ℕ, List, [], ◌∷◌, ◌++◌, refl, sym, ap, subst, ◌∙◌}
+use Rattle.std.specs.Prelude.{Bool, true, false, ◌||◌, ◌==◌, reverse, filter}
 use Rattle.std.proofs.Math.Bool.{or_comm}
-use Rattle.std.proofs.lemmas.Bool.{eq-eqb, ne_eqb, cases_eq, cases_Bool, or_cases, or_left, or_right}
+use Rattle.std.proofs.lemmas.Bool.{eqb-true, eq-eqb, cases_Bool, or_cases, or_left, or_right}
 use Rattle.std.proofs.lemmas.List.{reverse-append}
 use Rattle.std.proofs.lemmas.List.Folds.{list_any-append}
 use Rattle.std.proofs.lemmas.Grind.{flat_map-append}
-use Rattle.stream_cuts.specs.Streams.{keep_if, of_stream, without}
+use Rattle.stream_cuts.specs.Streams.{of_stream}
 use Rattle.tree_cuts.specs.Calls.{Charged}
 use Rattle.front_laws.specs.Inodes.{has, given_by, given}
 use Rattle.front_laws.specs.Owned.{Among}
+use Rattle.front_core.proofs.Listed.{those_of}
 
 -- ---- numbers in lists
 
@@ -51,61 +52,6 @@ none_given inodes i h n = elim (cases_Bool (has i (given inodes h))) [ inl q ↦
 pub not_given : (inodes : List ℕ) (i : ℕ) (h : List (ℕ × Charged)) (e : ℕ × Charged) → has i (given inodes h) ≡ false → Among e h → has i (given_by inodes e.1.0) ≡ true → ⊥
 not_given inodes i h e out a p = in_and_out (has i (given inodes h)) (in_given inodes i h e a p) out
 
--- ---- those of a stream
-
-first_kept : (e d : ℕ × Charged) (b : Bool) (h : List (ℕ × Charged)) → Among e (keep_if b d h) → (Among e h → ⊥) → b ≡ true
-first_kept e d true h a n = refl
-first_kept e d false h a n = absurd (n a)
-
-pub among_of : (e : ℕ × Charged) (s : ℕ) (h : List (ℕ × Charged)) → e.0 ≡ s → Among e h → Among e (of_stream s h)
-among_of e s [] p a = a
-among_of e s (d ∷ h) p (inl q) =
-    subst (λ b. Among e (keep_if b d (of_stream s h))) (sym (eq-eqb d.0 s (ap (λ (z : ℕ × Charged). z.0) q ∙ p))) (inl q)
-among_of e s (d ∷ h) p (inr a) =
-    let rest = among_of e s h p a in
-    elim (d.0 == s) as (λ b. Among e (keep_if b d (of_stream s h))) [ true ↦ inr rest | false ↦ rest ]
-
-of_first : (e d : ℕ × Charged) (s : ℕ) (h : List (ℕ × Charged)) → d.0 ≡ s → (Among e (of_stream s h) → Among e h × (e.0 ≡ s))
-    → Among e (d ∷ of_stream s h) → Among e (d ∷ h) × (e.0 ≡ s)
-of_first e d s h p f (inl q) = (inl q, sym (ap (λ (z : ℕ × Charged). z.0) q) ∙ p)
-of_first e d s h p f (inr a) = let r = f a in (inr r.0, r.1)
-
-pub of_among : (e : ℕ × Charged) (s : ℕ) (h : List (ℕ × Charged)) → Among e (of_stream s h) → Among e h × (e.0 ≡ s)
-of_among e s [] a = absurd a
-of_among e s (d ∷ h) a = elim (cases_eq d.0 s) [
-  | inl p ↦ of_first e d s h p (of_among e s h) (subst (λ b. Among e (keep_if b d (of_stream s h))) (eq-eqb d.0 s p) a)
-  | inr n ↦ (let r = of_among e s h (subst (λ b. Among e (keep_if b d (of_stream s h))) (ne_eqb d.0 s n) a) in (inr r.0, r.1))
-]
-
-pub given_by_stream : (inodes : List ℕ) (i s : ℕ) (h : List (ℕ × Charged)) → has i (given inodes (of_stream s h)) ≡ true → IsGivenBy inodes i s h
-given_by_stream inodes i s h p = let g = given_in inodes i (of_stream s h) p in let r = of_among g.0 s h g.1 in (g.0, r.0, r.1, g.2)
-
-pub stream_gave : (inodes : List ℕ) (i s : ℕ) (h : List (ℕ × Charged)) (e : ℕ × Charged) → Among e h → e.0 ≡ s → has i (given_by inodes e.1.0) ≡ true
-    → has i (given inodes (of_stream s h)) ≡ true
-stream_gave inodes i s h e a p q = in_given inodes i (of_stream s h) e (among_of e s h p a) q
-
--- ---- those of the other streams
-
-pub among_left : (e : ℕ × Charged) (s : ℕ) (h : List (ℕ × Charged)) → e.0 ≢ s → Among e h → Among e (without s h)
-among_left e s [] ne a = a
-among_left e s (d ∷ h) ne (inl p) =
-    subst (λ b. Among e (keep_if (not b) d (without s h))) (sym (ne_eqb d.0 s (λ q. ne (sym (ap (λ (z : ℕ × Charged). z.0) p) ∙ q)))) (inl p)
-among_left e s (d ∷ h) ne (inr a) =
-    let rest = among_left e s h ne a in
-    elim (d.0 == s) as (λ b. Among e (keep_if (not b) d (without s h))) [ true ↦ rest | false ↦ inr rest ]
-
-left_first : (e d : ℕ × Charged) (s : ℕ) (h : List (ℕ × Charged)) → d.0 ≢ s → (Among e (without s h) → Among e h × (e.0 ≢ s))
-    → Among e (d ∷ without s h) → Among e (d ∷ h) × (e.0 ≢ s)
-left_first e d s h ne f (inl p) = (inl p, λ q. ne (ap (λ (z : ℕ × Charged). z.0) p ∙ q))
-left_first e d s h ne f (inr a) = let r = f a in (inr r.0, r.1)
-
-pub left_among : (e : ℕ × Charged) (s : ℕ) (h : List (ℕ × Charged)) → Among e (without s h) → Among e h × (e.0 ≢ s)
-left_among e s [] a = absurd a
-left_among e s (d ∷ h) a = elim (cases_eq d.0 s) [
-  | inl p ↦ (let r = left_among e s h (subst (λ b. Among e (keep_if (not b) d (without s h))) (eq-eqb d.0 s p) a) in (inr r.0, r.1))
-  | inr n ↦ left_first e d s h n (left_among e s h) (subst (λ b. Among e (keep_if (not b) d (without s h))) (ne_eqb d.0 s n) a)
-]
-
 -- ---- those that pass a test
 
 pub among_passing : (test : (ℕ × Charged) → Bool) (e : ℕ × Charged) (h : List (ℕ × Charged)) → test e ≡ true → Among e h → Among e (filter test h)
@@ -124,6 +70,21 @@ passing_among test e (d ∷ h) a = elim (cases_Bool (test d)) [
   ]
   | inr off ↦ (let r = passing_among test e h (rw off at a) in (inr r.0, r.1))
 ]
+
+-- ---- those of a stream
+
+pub among_of : (e : ℕ × Charged) (s : ℕ) (h : List (ℕ × Charged)) → e.0 ≡ s → Among e h → Among e (of_stream s h)
+among_of e s h p a = subst (Among e) (those_of s h) (among_passing (λ (d : ℕ × Charged). d.0 == s) e h (eq-eqb e.0 s p) a)
+
+pub of_among : (e : ℕ × Charged) (s : ℕ) (h : List (ℕ × Charged)) → Among e (of_stream s h) → Among e h × (e.0 ≡ s)
+of_among e s h a = let r = passing_among (λ (d : ℕ × Charged). d.0 == s) e h (subst (Among e) (sym (those_of s h)) a) in (r.0, eqb-true e.0 s r.1)
+
+pub given_by_stream : (inodes : List ℕ) (i s : ℕ) (h : List (ℕ × Charged)) → has i (given inodes (of_stream s h)) ≡ true → IsGivenBy inodes i s h
+given_by_stream inodes i s h p = let g = given_in inodes i (of_stream s h) p in let r = of_among g.0 s h g.1 in (g.0, r.0, r.1, g.2)
+
+pub stream_gave : (inodes : List ℕ) (i s : ℕ) (h : List (ℕ × Charged)) (e : ℕ × Charged) → Among e h → e.0 ≡ s → has i (given_by inodes e.1.0) ≡ true
+    → has i (given inodes (of_stream s h)) ≡ true
+stream_gave inodes i s h e a p q = in_given inodes i (of_stream s h) e (among_of e s h p a) q
 
 -- ---- the order doesn't matter
 

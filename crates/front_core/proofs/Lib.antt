@@ -14,7 +14,6 @@ pub mod Next
 pub mod Updating
 pub mod WithMore
 pub mod SealedBits
-pub mod Turning
 pub mod Given
 pub mod Lists
 pub mod Lowest

@@ -1,10 +1,9 @@
 -- Unsealed updates as the parts keep them: what sealing a stream and one more update make of the lists.
-use Rattle.std.proofs.Common.{◌≡◌, ℕ, ◌+◌, List, [], ◌∷◌, ◌++◌, map, refl, sym, ap, ◌∙◌, arith}
+use Rattle.std.proofs.Common.{◌≡◌, ℕ, ◌+◌, List, [], ◌∷◌, ◌++◌, map, refl, sym, ap, ◌∙◌}
 use Rattle.std.specs.Prelude.{Bool, true, false, cond, not, ◌==◌, reverse, filter, flat_map}
-use Rattle.std.specs.List.{sum_by}
 use Rattle.std.proofs.lemmas.Grind.{reverse_onto, flat_map-append}
 use Rattle.std.proofs.lemmas.List.{map-append, append-nil}
-use Rattle.std.proofs.lemmas.List.Sums.{sum_by-append}
+use Rattle.std.proofs.lemmas.List.Sums.{sum_by-cons}
 use Rattle.std.proofs.lemmas.List.Elements.{filter-append}
 use Rattle.stream_cuts.specs.Streams.{keep_if, of_stream, without}
 use Rattle.stream_cuts.specs.Amounts.{sum_over}
@@ -81,16 +80,13 @@ noted_more e h = listed_more noted e h
 
 -- ---- sums over them
 
-sum_first : {X : Type 0} (f : X → ℕ) (x : X) (xs : List X) → sum_by f (x ∷ xs) ≡ f x + sum_by f xs
-sum_first f x xs = let r : sum_by f (x ∷ xs) ≡ (0 + f x) + sum_by f xs = sum_by-append f (x ∷ []) xs in (let g : sum_by f (x ∷ xs) ≡ f x + sum_by f xs = omega (arith, r) in g)
-
 pub weights_of : (inodes : List ℕ) (us : List (ℕ × Charged)) → txns.weight_of (map (txn_of inodes) us) ≡ sum_over (λ (e : ℕ × Charged). e.1.1.weight) us
 weights_of inodes [] = refl
-weights_of inodes (e ∷ us) = sum_first (λ u. u.weight) (txn_of inodes e) (map (txn_of inodes) us) ∙ ap (λ z. e.1.1.weight + z) (weights_of inodes us)
+weights_of inodes (e ∷ us) = sum_by-cons (λ u. u.weight) (txn_of inodes e) (map (txn_of inodes) us) ∙ ap (λ z. e.1.1.weight + z) (weights_of inodes us)
 
 pub rows_given_of : (inodes : List ℕ) (us : List (ℕ × Charged)) → txns.rows_of (map (txn_of inodes) us) ≡ sum_over (λ (e : ℕ × Charged). e.1.1.gave_rows) us
 rows_given_of inodes [] = refl
-rows_given_of inodes (e ∷ us) = sum_first (λ u. u.gave_rows) (txn_of inodes e) (map (txn_of inodes) us) ∙ ap (λ z. e.1.1.gave_rows + z) (rows_given_of inodes us)
+rows_given_of inodes (e ∷ us) = sum_by-cons (λ u. u.gave_rows) (txn_of inodes e) (map (txn_of inodes) us) ∙ ap (λ z. e.1.1.gave_rows + z) (rows_given_of inodes us)
 
 pub operations_of : (inodes : List ℕ) (us : List (ℕ × Charged)) → txns.ops_of (map (txn_of inodes) us) ≡ flat_map (λ (e : ℕ × Charged). ops_of inodes e.1.0) us
 operations_of inodes [] = refl

@@ -103,6 +103,3 @@ below_set count lists s new l h below r i p = elim (cases_eq r s) [
   | inl e ↦ h i (subst (λ (z : List ℕ). has i z ≡ true) (get_or-set_same lists s new [] l) (subst (λ z. has i (list_at (set lists s new) z) ≡ true) e p))
   | inr n ↦ below r i (subst (λ (z : List ℕ). has i z ≡ true) (get_or-set_other lists s r new [] n) p)
 ]
-
-pub below_none : (count : ℕ) (lists : List (List ℕ)) → ((s : ℕ) → list_at lists s ≡ []) → AreBelow count lists
-below_none count lists none s i p = absurd (let z : has i [] ≡ true = subst (λ (z : List ℕ). has i z ≡ true) (none s) p in cc)

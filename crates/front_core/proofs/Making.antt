@@ -18,7 +18,7 @@ use Rattle.front_laws.specs.Inodes.{HasLowestIf, with_inode}
 use Rattle.front_laws.specs.Kept.{IsKept, IsTame, is_answered, now_of}
 use Rattle.front_laws.specs.Batches.{sealed_in}
 use Rattle.front_core.specs.Pending.{IsPendingOf, IsAsBefore, AreSealed}
-use Rattle.front_core.specs.Left.{IsLeft, IsStateOf, IsPlanOf, IsMade, IsSameState, sealed_by, entered_step}
+use Rattle.front_core.specs.Left.{IsLeft, IsStateOf, IsPlanOf, IsMade, sealed_by, entered_step}
 use Rattle.front_core.specs.declared.pending.Pending.{Pending}
 use Rattle.front_core.specs.declared.state.State.{State}
 use Rattle.front_core.specs.declared.planning.Plan.{Plan}
@@ -97,13 +97,3 @@ module _ (sizes : Sizes) (t : Rows) (h : List Entry) (actor : ℕ) (c : Command)
         ∙ ap (λ z. old.pending.txns.queue ++ sealed_in sizes.inodes z n.seals n.unsealed (map Seal (sealed_by plan))) (sym same_inodes)
         ∙ ap (λ z. old.pending.txns.queue ++ sealed_in sizes.inodes new.inodes.items n.seals n.unsealed z) (sym steps);
   }
-
--- a state with other rooms and places is what the same history left
-pub state_same : (sizes : Sizes) (n : Now) (old new : State) → IsSameState old new → IsLeft sizes n old → IsLeft sizes n new
-state_same sizes n old new same left = record {
-  tree = same.tree ∙ left.tree;
-  next = same.next ∙ left.next;
-  streams = λ a l. ap (λ (z : List ℕ). slice_index z a) same.streams ∙ left.streams a l;
-  pending = subst (λ z. IsPendingOf sizes.inodes z n.tree n.unsealed new.pending) (sym same.inodes) (same.pending.kept sizes.inodes old.inodes.items n.tree n.unsealed left.pending);
-  seals = same.pending.seals ∙ left.seals;
-}

@@ -1,11 +1,11 @@
 -- The call with an update: what is known of the history with it, and that the update may enter behind the seals of its plan.
 use Rattle.std.proofs.Common.{◌≡◌, ℕ, ◌+◌, ◌-◌, ◌^◌, ◌<◌, ◌≤◌, List, [], ◌∷◌, ◌++◌, length, map, refl, sym, ap, subst, ◌∙◌, arith, inl, inr, eqb, length-append}
 use Rattle.std.specs.Prelude.{true, false, cond, ◌==◌, Option, None, Some, reverse}
-use Rattle.std.specs.List.{AllByRecursion, list_any, sum_by}
+use Rattle.std.specs.List.{AllByRecursion, list_any}
 use Rattle.std.specs.FinMap.{get, find, entries, get-entries, len, len-entries}
 use Rattle.std.proofs.Math.Seq.{get_or-append_seam}
-use Rattle.std.proofs.lemmas.Bool.{leb-true, and_parts, eqb-true, eq-eqb, ne_eqb, cases_eq, or_cases, or_left, or_right}
-use Rattle.std.proofs.lemmas.List.Sums.{sum_by-append}
+use Rattle.std.proofs.lemmas.Bool.{leb-true, and_parts, eq-eqb, ne_eqb, cases_eq, or_left, or_right}
+use Rattle.std.proofs.lemmas.List.Sums.{sum_by-cons}
 use Rattle.std.proofs.lemmas.Map.Steps.{le-length_from_below}
 use Rattle.std.specs.Cmp.{unsigned_tied}
 use Rattle.std.specs.Ordering.{nat_cmp}
@@ -42,6 +42,7 @@ use Rattle.front_laws.specs.Kept.{IsKept, IsTame, is_answered, now_of}
 use Rattle.front_laws.specs.Laws.{IsLight, IsKeptNow}
 use Rattle.front_laws.specs.Logging.{MayLogAll}
 use Rattle.front_laws.specs.Owned.{IsRow}
+use Rattle.front_laws.proofs.Turning.{dropped_row}
 use Rattle.front_core.specs.Entering.{weight_kept, IsEnteringOf, MayEnter}
 use Rattle.front_core.specs.Free.{MakesTheLast}
 use Rattle.front_core.specs.Left.{IsStateOf, IsPlanOf, sealed_by, entered_step}
@@ -50,9 +51,10 @@ use Rattle.front_core.specs.declared.pending.Pending.{Pending}
 use Rattle.front_core.specs.declared.pending.Entering.{Entering}
 use Rattle.front_core.specs.declared.state.State.{State}
 use Rattle.front_core.specs.declared.planning.Plan.{Plan}
+use Rattle.front_core.proofs.Entering.{row_of_given}
 use Rattle.front_core.proofs.Laws.{next_kept, kept_states, may_be_logged, gave_dropped, built_weight, built_blocks}
+use Rattle.front_core.proofs.Planned.{no_blocks}
 use Rattle.front_core.proofs.Told.{weight_told, rows_told, sum_reverse}
-use Rattle.front_core.proofs.Turning.{dropped_row}
 use Rattle.front_core.proofs.Viewed.{known}
 
 -- ---- by the update
@@ -122,28 +124,14 @@ module _ (count : ℕ) (items : List ℕ) (t : Rows) (rest : List (ℕ × Charge
   last_by (Move dir name to_dir to_name id d r stays) at low = tt
   last_by (Release id) at low = tt
 
-row_of_given : (inodes : List ℕ) (i : ℕ) (ds : List ℕ) → has i (map (inode_in inodes) ds) ≡ true → (y : ℕ) × (has y ds ≡ true) × (inode_in inodes y ≡ i)
-row_of_given inodes i [] p = absurd (cc)
-row_of_given inodes i (y ∷ ds) p = elim (or_cases (inode_in inodes y == i) (has i (map (inode_in inodes) ds)) p) [
-  | inl q ↦ (y, or_left (y == y) (has y ds) (eq-eqb y y refl), eqb-true (inode_in inodes y) i q)
-  | inr q ↦ (let r = row_of_given inodes i ds q in (r.0, or_right (y == r.0) (has r.0 ds) r.1, r.2))
-]
-
 -- ---- sums
 
 weight_more : (s : ℕ) (f : ℕ × Charged) (h : List (ℕ × Charged)) → unsealed_weight s h ≤ unsealed_weight s (f ∷ h)
 weight_more s f h = elim (f.0 == s) as (λ b. unsealed_weight s h ≤ sum_over (λ e. e.1.1.weight) (keep_if b f (of_stream s h))) [ true ↦ omega arith | false ↦ omega arith ]
 
-sum_first : {X : Type 0} (f : X → ℕ) (x : X) (xs : List X) → sum_by f (x ∷ xs) ≡ f x + sum_by f xs
-sum_first f x xs = let r : sum_by f (x ∷ xs) ≡ (0 + f x) + sum_by f xs = sum_by-append f (x ∷ []) xs in (let g : sum_by f (x ∷ xs) ≡ f x + sum_by f xs = omega (arith, r) in g)
-
 blocks_given_of : (inodes : List ℕ) (us : List (ℕ × Charged)) → txns.blocks_of (map (txn_of inodes) us) ≡ sum_over (λ (e : ℕ × Charged). e.1.1.gave_blocks) us
 blocks_given_of inodes [] = refl
-blocks_given_of inodes (e ∷ us) = sum_first (λ u. u.gave_blocks) (txn_of inodes e) (map (txn_of inodes) us) ∙ ap (λ z. e.1.1.gave_blocks + z) (blocks_given_of inodes us)
-
-no_blocks_of : (n : ℕ) (h : List (ℕ × Charged)) → AllByRecursion (IsLight n) h → sum_over (λ (e : ℕ × Charged). e.1.1.gave_blocks) h ≡ 0
-no_blocks_of n [] a = refl
-no_blocks_of n (e ∷ h) a = (let p = a.0.no_blocks in let q = no_blocks_of n h a.1 in omega (arith, p, q))
+blocks_given_of inodes (e ∷ us) = sum_by-cons (λ u. u.gave_blocks) (txn_of inodes e) (map (txn_of inodes) us) ∙ ap (λ z. e.1.1.gave_blocks + z) (blocks_given_of inodes us)
 
 few_inodes : (blocks count : ℕ) → good_inodes blocks count ≡ true → count ≤ 8192
 few_inodes blocks count good = leb-true count 8192 (and_parts _ _ (and_parts _ _ (and_parts _ _ good).0).0).1
@@ -285,7 +273,7 @@ module _ (sizes : Sizes) (t : Rows) (h : List Entry) (actor : ℕ) (c : Command)
           let b = weight_more e.stream (e.stream, (u, charge n.tree u)) rest in
           let d : unsealed_weight e.stream ((e.stream, (u, charge n.tree u)) ∷ rest) ≤ transaction_limit = subst (λ l. unsealed_weight e.stream l ≤ transaction_limit) left_next (known_next.weigh e.stream) in
           omega (arith, a, b, d));
-      blocks = (let a : p.txns.gave_blocks ≡ 0 = pending.txns.gave_blocks ∙ blocks_given_of all (reverse rest) ∙ sum_reverse (λ e. e.1.1.gave_blocks) rest ∙ no_blocks_of (length all) rest light_next.1 in omega (arith, a));
+      blocks = (let a : p.txns.gave_blocks ≡ 0 = pending.txns.gave_blocks ∙ blocks_given_of all (reverse rest) ∙ sum_reverse (λ e. e.1.1.gave_blocks) rest ∙ no_blocks (length all) rest light_next.1 in omega (arith, a));
       rows = (let a = rows_told p.txns all rest pending.txns in
           let b = ent.rows in
           let g = gave_dropped n.tree u (planned.ready u is).fits (planned.built u is) in

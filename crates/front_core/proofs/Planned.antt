@@ -37,7 +37,8 @@ use Rattle.front_core.proofs.Told.{met_forced}
 
 -- ---- whether an update's own stream is sealed
 
-no_blocks : (n : ℕ) (h : List (ℕ × Charged)) → AllByRecursion (IsLight n) h → unsealed_blocks h ≡ 0
+-- light updates give up no blocks
+pub no_blocks : (n : ℕ) (h : List (ℕ × Charged)) → AllByRecursion (IsLight n) h → unsealed_blocks h ≡ 0
 no_blocks n [] a = refl
 no_blocks n (e ∷ h) a = let x = a.0.no_blocks in let y = no_blocks n h a.1 in (let z : e.1.1.gave_blocks + unsealed_blocks h ≡ 0 = omega (arith, x, y) in z)
 

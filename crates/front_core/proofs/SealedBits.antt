@@ -4,22 +4,24 @@ use Rattle.std.specs.Prelude.{Bool, true, false, cond, not, if◌then◌else◌,
 use Rattle.std.specs.List.{AllByRecursion, range_with_len}
 use Rattle.std.proofs.Math.Bool.{or_comm}
 use Rattle.std.proofs.lemmas.Bool.{cases_eq, eq-eqb, ne_eqb}
+use Rattle.std.proofs.lemmas.List.Elements.{filter_agree}
 use Rattle.stream_cuts.specs.Streams.{Seal, without, unsealed_after}
 use Rattle.stream_cuts.specs.Forced.{streams, Numbered}
 use Rattle.cross_dep.specs.Books.{has_bit}
 use Rattle.tree_cuts.specs.Calls.{Charged}
 use Rattle.front_laws.specs.Inodes.{has}
 use Rattle.front_laws.specs.Owned.{Among}
+use Rattle.front_laws.proofs.Among.{among_was}
 use Rattle.front_core.specs.Free.{but_of}
 use Rattle.front_core.specs.Left.{sealed_by}
 use Rattle.front_core.specs.declared.planning.Plan.{Plan}
-use Rattle.front_core.proofs.Given.{has_append, left_among}
+use Rattle.front_core.proofs.Given.{has_append}
 use Rattle.front_core.proofs.Listed.{rest_without}
 
 -- an update that is unsealed behind seals was so before them
 pub among_behind : (l : List ℕ) (unsealed : List (ℕ × Charged)) (e : ℕ × Charged) → Among e (unsealed_after unsealed (map Seal l)) → Among e unsealed
 among_behind [] unsealed e a = a
-among_behind (s ∷ l) unsealed e a = (left_among e s unsealed (among_behind l (without s unsealed) e a)).0
+among_behind (s ∷ l) unsealed e a = (among_was e s unsealed (among_behind l (without s unsealed) e a)).0
 
 -- ---- filters
 
@@ -42,11 +44,6 @@ module _ {A : Type 0} where
   filter_agreed p q (e ∷ h) a =
       ap (λ b. cond b (e ∷ filter p h) (filter p h)) a.0 ∙ ap (λ z. cond (q e) (e ∷ z) z) (filter_agreed p q h a.1)
 
-  filter_equal : (p q : A → Bool) (h : List A) → ((e : A) → p e ≡ q e) → filter p h ≡ filter q h
-  filter_equal p q [] f = refl
-  filter_equal p q (e ∷ h) f =
-      ap (λ b. cond b (e ∷ filter p h) (filter p h)) (f e) ∙ ap (λ z. cond (q e) (e ∷ z) z) (filter_equal p q h f)
-
 eq_turned : (a b : ℕ) → (a == b) ≡ (b == a)
 eq_turned a b = elim (cases_eq a b) [
   | inl e ↦ eq-eqb a b e ∙ sym (eq-eqb b a (sym e))
@@ -64,8 +61,8 @@ left_behind (s ∷ l) h =
     left_behind l (without s h)
     ∙ ap (filter (λ (e : ℕ × Charged). not (has e.0 l))) (sym (rest_without s h))
     ∙ filter_twice (λ (e : ℕ × Charged). not (has e.0 l)) (λ (e : ℕ × Charged). not (e.0 == s)) h
-    ∙ filter_equal (λ (e : ℕ × Charged). not (e.0 == s) && not (has e.0 l)) (λ (e : ℕ × Charged). not (has e.0 (s ∷ l))) h
-    (λ (e : ℕ × Charged). neither (e.0 == s) (has e.0 l) ∙ ap (λ b. not (b || has e.0 l)) (eq_turned e.0 s))
+    ∙ filter_agree (λ (e : ℕ × Charged). not (e.0 == s) && not (has e.0 l)) (λ (e : ℕ × Charged). not (has e.0 (s ∷ l)))
+    (λ (e : ℕ × Charged). neither (e.0 == s) (has e.0 l) ∙ ap (λ b. not (b || has e.0 l)) (eq_turned e.0 s)) h
 
 -- ---- streams by their bits
 

@@ -12,9 +12,6 @@ use Rattle.front_core.specs.Logged.{AreLogged}
 
 -- ---- nothing but the room changes
 
-pub same_area : (a : Area) → AreAsBefore a a
-same_area a = record { base = refl; ranges = λ s. refl; deltas = λ s. refl; places = λ s. refl }
-
 pub as_before : (a b c : Area) → AreAsBefore a b → AreAsBefore b c → AreAsBefore a c
 as_before a b c p q = record {
   base = q.base ∙ p.base;

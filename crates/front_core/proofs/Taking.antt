@@ -17,8 +17,9 @@ use Rattle.carried_volumes.specs.Plain.{IsDense}
 use Rattle.carried_volumes.specs.Carried.{HaveInodes}
 use Rattle.front_laws.specs.Inodes.{has, dropped, given_by, given, IsFree, IsLowestFree}
 use Rattle.front_laws.specs.Owned.{Among, AreOwned}
+use Rattle.front_laws.proofs.Among.{among_left, among_was}
 use Rattle.front_core.specs.Free.{Taken, AreTaken, IsLowestOf, list_at, given_at, but_of}
-use Rattle.front_core.proofs.Given.{IsGivenIn, in_and_out, given_in, in_given, none_given, not_given, given_by_stream, stream_gave, among_left, left_among, among_passing, passing_among, has_reversed}
+use Rattle.front_core.proofs.Given.{IsGivenIn, in_and_out, given_in, in_given, none_given, not_given, given_by_stream, stream_gave, among_passing, passing_among, has_reversed}
 use Rattle.front_core.proofs.Lists.{has_at, place_of_one}
 use Rattle.front_core.proofs.Lowest.{IsOpenBelow}
 
@@ -46,19 +47,6 @@ taken_at_first count inodes t taken have dense counted none on off = record {
   own = λ s l. none s;
   inside = λ i p. absurd (let z : false ≡ true = p in cc);
   apart = λ s r i ne p q. (let z : false ≡ true = p in cc);
-}
-
--- ---- the same inodes in other memory
-
-pub taken_same : (count : ℕ) (inodes : List ℕ) (t : Rows) (unsealed : List (ℕ × Charged)) (old new : Taken) → new.count ≡ old.count → new.bits ≡ old.bits → new.given ≡ old.given
-    → AreTaken count inodes t unsealed old → AreTaken count inodes t unsealed new
-taken_same count inodes t unsealed old new counts bits lists are = record {
-  counted = counts ∙ are.counted;
-  clear = λ i high low c. are.clear i high low (ap (λ (z : List ℕ). is_set z i) (sym bits) ∙ c);
-  free = λ i high low f. ap (λ (z : List ℕ). is_set z i) bits ∙ are.free i high low f;
-  own = λ s l. ap (λ (z : List (List ℕ)). list_at z s) lists ∙ are.own s l;
-  inside = are.inside;
-  apart = are.apart;
 }
 
 -- ---- inodes that were given up
@@ -162,8 +150,8 @@ module _ (count : ℕ) (inodes : List ℕ) (t : Rows) (unsealed : List (ℕ × C
   taken_released s new l within counts lists own others = record {
     counted = counts ∙ are.counted;
     clear = λ i high low c. elim (cases_Bool (has i (given_at taken s))) [
-      | inl q ↦ listed_free s i (without s unsealed) l q (λ (e : ℕ × Charged) (a : Among e (without s unsealed)). left_among e s unsealed a)
-      | inr q ↦ free_left i (without s unsealed) (λ (e : ℕ × Charged) (a : Among e (without s unsealed)). (left_among e s unsealed a).0)
+      | inl q ↦ listed_free s i (without s unsealed) l q (λ (e : ℕ × Charged) (a : Among e (without s unsealed)). among_was e s unsealed a)
+      | inr q ↦ free_left i (without s unsealed) (λ (e : ℕ × Charged) (a : Among e (without s unsealed)). (among_was e s unsealed a).0)
           (are.clear i high low (sym (others i q) ∙ c))
     ];
     free = λ i high low f. elim (cases_Bool (has i (given_at taken s))) [
@@ -177,7 +165,7 @@ module _ (count : ℕ) (inodes : List ℕ) (t : Rows) (unsealed : List (ℕ × C
       | inr n ↦ ap (λ (z : List (List ℕ)). list_at z r) lists ∙ get_or-set_other taken.given s r [] [] n ∙ are.own r m
           ∙ sym (ap (λ (z : List (ℕ × Charged)). given inodes (reverse z)) (other_stream r s unsealed n))
     ];
-    inside = λ i p. (let g = given_in inodes i (without s unsealed) p in are.inside i (in_given inodes i unsealed g.0 (left_among g.0 s unsealed g.1).0 g.2));
+    inside = λ i p. (let g = given_in inodes i (without s unsealed) p in are.inside i (in_given inodes i unsealed g.0 (among_was g.0 s unsealed g.1).0 g.2));
     apart = λ q r i ne p k. are.apart q r i ne (still q i p) (still r i k);
   }
     where
@@ -193,4 +181,4 @@ module _ (count : ℕ) (inodes : List ℕ) (t : Rows) (unsealed : List (ℕ × C
       still : (q i : ℕ) → has i (given inodes (of_stream q (without s unsealed))) ≡ true → has i (given inodes (of_stream q unsealed)) ≡ true
       still q i p =
           let g = given_by_stream inodes i q (without s unsealed) p in
-          stream_gave inodes i q unsealed g.0 (left_among g.0 s unsealed g.1).0 g.2 g.3
+          stream_gave inodes i q unsealed g.0 (among_was g.0 s unsealed g.1).0 g.2 g.3

@@ -1,10 +1,8 @@
 -- What is kept of unsealed updates stays as more inodes come behind the others.
 use Rattle.std.proofs.Common.{◌≡◌, inl, inr, ℕ, ◌<◌, ◌≤◌, List, [], ◌∷◌, ◌++◌, length, refl, sym, ap, subst, ◌∙◌, arith, length-append}
-use Rattle.std.specs.Prelude.{Some, reverse, flat_map}
+use Rattle.std.specs.Prelude.{Some, reverse}
 use Rattle.std.specs.FinMap.{get}
 use Rattle.std.specs.List.{AllByRecursion}
-use Rattle.std.proofs.lemmas.List.{reverse-append}
-use Rattle.std.proofs.lemmas.Grind.{flat_map-append}
 use Rattle.stream_cuts.specs.Streams.{of_stream}
 use Rattle.delta_log.specs.Laws.{ranges_of, deltas_of}
 use Rattle.stream_txn.specs.Kept.{AreTxnsOf}
@@ -24,25 +22,7 @@ use Rattle.front_core.specs.Pending.{txn_of, txns_of, IsPendingOf}
 use Rattle.front_core.specs.declared.pending.Pending.{Pending}
 use Rattle.front_core.proofs.Given.{of_among}
 use Rattle.front_core.proofs.Listed.{txns_more}
-use Rattle.front_core.proofs.Longer.{taken_longer, longer_free, shorter_free}
-
--- lists that two rules make of updates are the same, in the reverse order too, where the rules agree on each
-module _ {X : Type 0} (f g : (ℕ × Charged) → List X) where
-  same_flat : (h : List (ℕ × Charged)) → ((e : ℕ × Charged) → Among e h → f e ≡ g e) → flat_map f h ≡ flat_map g h
-  same_flat [] same = refl
-  same_flat (e ∷ h) same =
-      ap (λ z. z ++ flat_map f h) (same e (inl refl)) ∙ ap (λ z. g e ++ z) (same_flat h (λ (d : ℕ × Charged) (a : Among d h). same d (inr a)))
-
-  last_flat : (r : (ℕ × Charged) → List X) (e : ℕ × Charged) (h : List (ℕ × Charged)) → flat_map r (reverse (e ∷ h)) ≡ flat_map r (reverse h) ++ (r e ++ [])
-  last_flat r e h = ap (λ (z : List (ℕ × Charged)). flat_map r z) (reverse-append (e ∷ []) h) ∙ flat_map-append r (reverse h) (e ∷ [])
-
-  reversed_flat : (h : List (ℕ × Charged)) → ((e : ℕ × Charged) → Among e h → f e ≡ g e) → flat_map f (reverse h) ≡ flat_map g (reverse h)
-  reversed_flat [] same = refl
-  reversed_flat (e ∷ h) same =
-      last_flat f e h
-      ∙ ap (λ z. z ++ (f e ++ [])) (reversed_flat h (λ (d : ℕ × Charged) (a : Among d h). same d (inr a)))
-      ∙ ap (λ z. flat_map g (reverse h) ++ (z ++ [])) (same e (inl refl))
-      ∙ sym (last_flat g e h)
+use Rattle.front_core.proofs.Longer.{reversed_flat, all_given, taken_longer, longer_free, shorter_free}
 
 module _ (count : ℕ) (inodes more : List ℕ) (t : Rows) (unsealed : List (ℕ × Charged)) (have : HaveInodes count inodes t)
     (light : AllByRecursion (IsLight (length inodes)) unsealed) where
@@ -87,9 +67,6 @@ module _ (count : ℕ) (inodes more : List ℕ) (t : Rows) (unsealed : List (ℕ
     taken = taken_longer count inodes more t unsealed have same_by p.free of.taken;
   }
 
-  same_given : given (inodes ++ more) unsealed ≡ given inodes unsealed
-  same_given = same_flat (λ (e : ℕ × Charged). given_by (inodes ++ more) e.1.0) (λ (e : ℕ × Charged). given_by inodes e.1.0) unsealed same_by
-
   row_stays : (s : ℕ) (r : Row) → get t s ≡ Some r → inode_in (inodes ++ more) s ≡ inode_in inodes s
   row_stays s r g = in_more inodes more s (have.listed s r g)
 
@@ -97,7 +74,7 @@ module _ (count : ℕ) (inodes more : List ℕ) (t : Rows) (unsealed : List (ℕ
   pub owned_more : AreOwned inodes t unsealed → AreOwned (inodes ++ more) t unsealed
   owned_more o = record {
     held = λ (x : ℕ) (row : IsRow t x).
-        ap (λ z. has z (given (inodes ++ more) unsealed)) (row_stays x row.0 row.1) ∙ ap (has (inode_in inodes x)) same_given ∙ o.held x row;
+        ap (λ z. has z (given (inodes ++ more) unsealed)) (row_stays x row.0 row.1) ∙ ap (has (inode_in inodes x)) (all_given count inodes more t unsealed have same_by) ∙ o.held x row;
     nodes = o.nodes;
     entries = o.entries;
     numbered = o.numbered;

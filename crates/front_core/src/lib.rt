@@ -21,4 +21,6 @@ pub use front::Front;
 #[cfg(test)]
 mod free_tests;
 #[cfg(test)]
+mod front_tests;
+#[cfg(test)]
 mod logging_tests;

@@ -3,9 +3,9 @@ use Rattle.std.proofs.lemmas.List.{get_or-set_same, get_or-set_other}
 use Rattle.free_maps.specs.Maps.{is_set}
 use Rattle.image_model.specs.Carrying.{inode_in}
 use Rattle.front_laws.specs.Inodes.{given_by, has}
+use Rattle.front_laws.proofs.Turning.{has_itself}
 use Rattle.front_core.specs.Free.{Taken, AreBelow, list_at, given_at, lists_in}
 use Rattle.front_core.proofs.Lists.{length-lists, has_last, below_set}
-use Rattle.front_core.proofs.Turning.{has_itself}
 use Rattle.front_core.proofs.Entering.{made_here, made_alone, no_maker, none_made, taken_entered}
 use Rattle.front_core.proofs.free.FreeInodes.enter.Goals as goal
 
