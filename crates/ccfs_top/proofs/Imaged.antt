@@ -2,6 +2,7 @@
 use Rattle.std.proofs.Common.{◌≡◌, ℕ, ◌-◌, ◌<◌, ◌^◌, List, length, refl, sym, ap, ◌∙◌, subst, arith}
 use Rattle.std.specs.declared.option.Option.{Option}
 use Rattle.std.specs.declared.option.Option.TheVariants.{None, Some}
+use Rattle.std.proofs.lemmas.Option.{same_Some}
 use Rattle.block_layout.specs.declared.geometry.Geometry.{Geometry}
 use Rattle.block_layout.specs.Sizes.{data_start}
 use Rattle.tree_cuts.specs.Calls.{Sizes}
@@ -39,11 +40,8 @@ sizes_by g = ap (λ (z : ℕ). sized z g.inodes) (data_left g)
 
 -- ---- an opened image
 
-some_same : {A : Type 0} {x y : A} → Some x ≡ Some y → x ≡ y
-some_same e = cc
-
 held_is : {A : Type 0} (o : Option (Check × ℕ)) (p q : A) → where_sound o p ≡ Some q → p ≡ q
-held_is None p q is = some_same is
+held_is None p q is = same_Some p q is
 held_is (Some failed) p q is = absurd (cc is)
 
 -- the number and the tree that contents hold are the volume's

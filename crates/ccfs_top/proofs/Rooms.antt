@@ -1,13 +1,9 @@
 -- The room that batches take, one after the other.
-use Rattle.std.proofs.Common.{◌≡◌, ℕ, zero, suc, ◌+◌, ◌-◌, ◌<◌, ◌≤◌, Bool, true, false, ◌&&◌, List, [], ◌∷◌, ◌++◌, length, refl, sym, ap, ◌∙◌, arith, ltb, append-nil}
-use Rattle.std.specs.Prelude.{not}
+use Rattle.std.proofs.Common.{◌≡◌, ℕ, zero, suc, ◌+◌, ◌-◌, ◌<◌, ◌≤◌, Bool, true, false, ◌&&◌, List, [], ◌∷◌, ◌++◌, length, refl, sym, ap, ◌∙◌, arith}
 use Rattle.std.specs.List.{sum_by}
-use Rattle.std.proofs.lemmas.Bool.{le-ltb}
-use Rattle.stream_cuts.specs.Streams.{Step, Enter, Seal, no_counts, one_more, entered, counts_after, keep_if}
-use Rattle.stream_cuts.specs.Cuts.{between_from, seals_from, seals, cut_at, batch}
-use Rattle.stream_cuts.proofs.Counts.{more_below}
-use Rattle.stream_cuts.proofs.Closed.{cut_below}
-use Rattle.stream_cuts.proofs.Longer.{entered_append, cut_at_longer}
+use Rattle.std.proofs.Math.Bool.{and-true}
+use Rattle.stream_cuts.specs.Streams.{Step, no_counts}
+use Rattle.stream_cuts.specs.Cuts.{seals, batch}
 use Rattle.ccfs_base.specs.declared.records.Rec.{Rec}
 use Rattle.ccfs_base.specs.declared.records.Rec.TheVariants as recs
 use Rattle.tree_model.specs.declared.rows.Entry.{Entry}
@@ -25,6 +21,7 @@ use Rattle.front_core.specs.Fronts.{Fronted, seals_of}
 use Rattle.ccfs_top.specs.Stages.{Room, room_in, has_room, used_by, have_room, used_by_all, batch_bytes, sizes_from}
 use Rattle.ccfs_top.specs.Sessions.{HasUsed, all_fit}
 use Rattle.front_laws.proofs.BatchSizes.{batches_have_their_size}
+use Rattle.front_laws.proofs.LongerBatches.{same_seals, batch_longer}
 
 -- ---- one batch more
 
@@ -42,11 +39,7 @@ have_both room (b ∷ l) m = both (has_room room b) (have_room (used_by room b) 
     both false y z w is = refl
 
 one_has : (room : Room) (bytes : ℕ) → have_room room (bytes ∷ []) ≡ has_room room bytes
-one_has room bytes = with_true (has_room room bytes)
-  where
-    with_true : (b : Bool) → b && true ≡ b
-    with_true true = refl
-    with_true false = refl
+one_has room bytes = and-true (has_room room bytes)
 
 -- ---- the sizes of batches
 
@@ -123,42 +116,6 @@ size_is sizes t inodes h k kept =
     ap (λ (f : Rec → ℕ). 36 + sum_by f all) same ∙ ap (λ (z : ℕ). 36 + z) (batches_have_their_size sizes t inodes h k kept)
 
 -- ---- longer histories
-
--- the seals of steps are told without their charges
-same_seals : (seen : ℕ → ℕ) (l : List (Step Charged)) → seals_from seen (plain l) ≡ seals_from seen l
-same_seals seen [] = refl
-same_seals seen (Enter s u ∷ l) = same_seals (one_more seen s) l
-same_seals seen (Seal s ∷ l) = ap (λ z. (s, seen s) ∷ z) (same_seals seen l)
-
-module _ {U : Type 0} where
-  between_append : (seen c d : ℕ → ℕ) (h g : List (ℕ × U)) → between_from seen c d (h ++ g) ≡ between_from seen c d h ++ between_from (counts_after seen h) c d g
-  between_append seen c d [] g = refl
-  between_append seen c d (e ∷ h) g =
-      let ih = between_append (one_more seen e.0) c d h g in
-      elim (ltb (seen e.0) (d e.0) && not (ltb (seen e.0) (c e.0)))
-      as (λ b. keep_if b e (between_from (one_more seen e.0) c d (h ++ g)) ≡ keep_if b e (between_from (one_more seen e.0) c d h) ++ between_from (counts_after (one_more seen e.0) h) c d g) [
-        | true ↦ ap (λ z. e ∷ z) ih
-        | false ↦ ih
-      ]
-
-  between_none : (seen c d : ℕ → ℕ) (h : List (ℕ × U)) → ((q : ℕ) → d q ≤ seen q) → between_from seen c d h ≡ []
-  between_none seen c d [] le = refl
-  between_none seen c d (e ∷ h) le =
-      ap (λ b. keep_if (b && not (ltb (seen e.0) (c e.0))) e (between_from (one_more seen e.0) c d h)) (le-ltb (seen e.0) (d e.0) (le e.0))
-      ∙ between_none (one_more seen e.0) c d h (more_below d seen e.0 le)
-
-  -- more steps leave a batch
-  batch_longer : (l k : List (Step U)) (n : ℕ) → n < length (seals l) → batch (l ++ k) n ≡ batch l n
-  batch_longer l k n lt =
-      let c : ℕ → ℕ = cut_at l n in
-      let d : ℕ → ℕ = cut_at l (suc n) in
-      ap (λ z. between_from no_counts z (cut_at (l ++ k) (suc n)) (entered (l ++ k))) (cut_at_longer l k n (omega arith))
-      ∙ ap (λ z. between_from no_counts c z (entered (l ++ k))) (cut_at_longer l k (suc n) (omega arith))
-      ∙ ap (between_from no_counts c d) (entered_append l k)
-      ∙ between_append no_counts c d (entered l) (entered k)
-      ∙ ap (λ z. between_from no_counts c d (entered l) ++ z)
-      (between_none (counts_after no_counts (entered l)) c d (entered k) (cut_below no_counts no_counts (suc n) l (λ q. let z : 0 ≤ no_counts q = omega arith in z)))
-      ∙ append-nil (between_from no_counts c d (entered l))
 
 module _ (sizes : Sizes) (t : Rows) (h g : List Entry) where
   size_longer : (k : ℕ) → k < seal_count sizes (start t) h → size_at sizes t (h ++ g) k ≡ size_at sizes t h k

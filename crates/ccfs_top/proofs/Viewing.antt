@@ -2,6 +2,7 @@
 use Rattle.std.proofs.Common.{◌≡◌, ℕ, false, List, sym, ap, ◌∙◌}
 use Rattle.std.specs.declared.option.Option.{Option}
 use Rattle.std.specs.declared.option.Option.TheVariants.{None, Some}
+use Rattle.std.proofs.lemmas.Option.{none-some, same_Some, some_pair_parts}
 use Rattle.tree_model.specs.declared.picturing.Item.{Item}
 use Rattle.tree_model.specs.Rows.{Rows}
 use Rattle.tree_model.specs.Picture.{picture}
@@ -31,19 +32,15 @@ shows_to c contents p opens held = ap (λ (o : Option Contents). pictured (if_op
 pub shown_of : (geometry : Geometry) (half : Half) (bytes c : List ℕ) (number : ℕ) (items : List Item) → Holds geometry half bytes c → Shows geometry half bytes number items → shown_for_now c ≡ Some (number, items)
 shown_of geometry half bytes c number items holds shows = ap (λ (o : Option Contents). pictured (if_opened tree_held o)) holds.opens ∙ shows
 
-some_same : {A : Type 0} {x y : A} → Some x ≡ Some y → x ≡ y
-some_same e = cc
-
 -- the tree that an image recovers to has the picture that it shows
 pub recovered_shown : (c : List ℕ) (n m : ℕ) (t : Rows) (p : List Item) → recovered_for_now c ≡ Some (n, t) → shown_for_now c ≡ Some (m, p) → (n ≡ m) × (picture t ≡ p)
 recovered_shown c n m t p recovers shows =
-    let pairs : (n, picture t) ≡ (m, p) = some_same (sym (ap pictured recovers) ∙ shows) in
-    (ap (λ (z : ℕ × List Item). z.0) pairs, ap (λ (z : ℕ × List Item). z.1) pairs)
+    some_pair_parts n m (picture t) p (sym (ap pictured recovers) ∙ shows)
 
 -- ---- what a volume holds
 
 held_is : {A : Type 0} (o : Option (Check × ℕ)) (p q : A) → where_sound o p ≡ Some q → p ≡ q
-held_is None p q is = some_same is
+held_is None p q is = same_Some p q is
 held_is (Some failed) p q is = absurd (cc is)
 
 -- the tree that contents hold is the volume's
@@ -52,16 +49,13 @@ tree_is contents n t held = ap (λ (z : ℕ × Rows). z.1) (held_is _ (number (v
 
 -- ---- images that are bad show nothing
 
-none_some : {A : Type 0} (x : A) → None ≡ Some x → ⊥
-none_some x e = cc e
-
 nothing_opened : (c : List ℕ) (p : ℕ × List Item) → opened c ≡ None → shown_for_now c ≡ Some p → ⊥
-nothing_opened c p none shows = none_some p (sym (ap (λ (o : Option Contents). pictured (if_opened tree_held o)) none) ∙ shows)
+nothing_opened c p none shows = none-some p (sym (ap (λ (o : Option Contents). pictured (if_opened tree_held o)) none) ∙ shows)
 
 nothing_recovered : (c : List ℕ) (check : Check) (block : ℕ) (p : ℕ × List Item) → Fails c check block → shown_for_now c ≡ Some p → ⊥
 nothing_recovered c check block p fails shows =
     let v = volume_in fails.contents in
-    none_some p (sym (ap (λ (o : Option Contents). pictured (if_opened tree_held o)) fails.opens ∙ ap (λ (o : Option (Check × ℕ)). pictured (where_sound o (number v, tree_of v))) fails.first) ∙ shows)
+    none-some p (sym (ap (λ (o : Option Contents). pictured (if_opened tree_held o)) fails.opens ∙ ap (λ (o : Option (Check × ℕ)). pictured (where_sound o (number v, tree_of v))) fails.first) ∙ shows)
 
 not_bad : (c : List ℕ) (kind : BadKind) (block : ℕ) (p : ℕ × List Item) → is_unbuilt c ≡ false → shown_for_now c ≡ Some p → IsBad c kind block → ⊥
 not_bad c Size block p built shows bad = nothing_opened c p (refused_opens_to_nothing c BadLength bad.1 tt built) shows

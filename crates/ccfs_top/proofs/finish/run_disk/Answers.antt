@@ -1,9 +1,10 @@
 use Rattle.std.proofs.Common.{sym, subst, arith}
+use Rattle.std.proofs.lemmas.Result.{IfOk-weaker, IfErr-weaker}
 use Rattle.ccfs_top.specs.declared.stop.Stop.{Stop}
 use Rattle.ccfs_top.specs.Images.{Image, IsImage, Holds}
 use Rattle.ccfs_top.specs.Left.{Halts}
 use Rattle.ccfs_top.specs.Runs.{image_by, ran, over}
-use Rattle.ccfs_top.proofs.Finishing.{found_by, finds_refused, halts_refused, done_behind, halts_behind, if_ok, if_err}
+use Rattle.ccfs_top.proofs.Finishing.{found_by, finds_refused, halts_refused, done_behind, halts_behind}
 use Rattle.ccfs_top.proofs.finish.run_disk.Goals as goal
 
 pub returns-in-Err-clause-halts : goal.returns-in-Err-clause-halts
@@ -32,7 +33,7 @@ returns-clause-done g c = λ told.
     let o = c.in-Ok.ensures.opened told in
     let old = g.K.Sink.held c.args.out.now in
     let new = g.K.Sink.held c.run_session.new.out in
-    if_ok c.run_session.result _ _
+    IfOk-weaker c.run_session.result _ _
     (λ done is. (o.0, o.1, (image, o.2, done_behind d c.args.disk s.volume.disk done.disk calls image done.batches g.K.Sink.tells old new (g.met.D.Disk.counts_now told) (c.in-Ok.ensures.quiet told) is)))
     (c.run_session.ensures.done told)
 
@@ -45,11 +46,11 @@ returns-clause-halts g c = λ told.
     let o = c.in-Ok.ensures.opened told in
     let old = g.K.Sink.held c.args.out.now in
     let new = g.K.Sink.held c.run_session.new.out in
-    if_err c.run_session.result _ _
+    IfErr-weaker c.run_session.result _ _
     (λ refused is. (o.0, o.1, (Holds image, o.2, halts_behind d c.args.disk s.volume.disk refused.kept calls image refused.fault g.K.Sink.tells old new (g.met.D.Disk.counts_now told) (c.in-Ok.ensures.quiet told) is)))
     (c.run_session.ensures.halts told)
 
 pub returns-clause-device : goal.returns-clause-device
 returns-clause-device g c =
     let later = c.in-Ok.ensures.later in
-    if_err c.run_session.result _ _ (λ refused rises is. (let cause = rises is in omega (arith, cause, later))) c.run_session.ensures.device
+    IfErr-weaker c.run_session.result _ _ (λ refused rises is. (let cause = rises is in omega (arith, cause, later))) c.run_session.ensures.device

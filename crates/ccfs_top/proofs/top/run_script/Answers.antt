@@ -1,4 +1,5 @@
 use Rattle.std.proofs.Common.{◌≡◌, List, Bool, cond, ap, sym, ◌∙◌, refl, subst}
+use Rattle.std.proofs.lemmas.Result.{IfOk-weaker}
 use Rattle.std.specs.declared.result.Result.TheVariants.{Ok, Err}
 use Rattle.gate_journal.proofs.Quiets.{quiet_start}
 use Rattle.script_text.specs.declared.scripts.Call.{Call}
@@ -7,7 +8,6 @@ use Rattle.script_text.specs.Texts.{too_long_line}
 use Rattle.std.specs.declared.option.Option.TheVariants.{None}
 use Rattle.ccfs_top.specs.Images.{Image, Finding, Unread}
 use Rattle.ccfs_top.specs.Runs.{alone, calls_in, over_calls, over_script, expected}
-use Rattle.ccfs_top.proofs.Finishing.{if_ok}
 use Rattle.ccfs_top.proofs.Closing.{Refused}
 use Rattle.ccfs_top.proofs.Shelling.{halts_script}
 use Rattle.ccfs_top.proofs.top.run_script.Goals as goal
@@ -16,7 +16,7 @@ pub returns-in-Ok-clause-done : goal.returns-in-Ok-clause-done
 returns-in-Ok-clause-done g c = λ told disk_told.
     let is = c.in-Ok.ensures.ok told in
     let are : calls_of (g.S.Source.left c.args.script.now) ≡ Ok c.deref.result.now = is.1 ∙ ap (λ (z : List Call). Ok z) (sym c.deref.ensures.value) in
-    if_ok c.run_disk.result _ _ (λ done was. (c.deref.result.now, are, is.0, subst (λ (z : List Call). first_unbuilt z ≡ None) (sym c.deref.ensures.value) is.2, was)) (c.run_disk.ensures.done disk_told)
+    IfOk-weaker c.run_disk.result _ _ (λ done was. (c.deref.result.now, are, is.0, subst (λ (z : List Call). first_unbuilt z ≡ None) (sym c.deref.ensures.value) is.2, was)) (c.run_disk.ensures.done disk_told)
 
 pub returns-in-Err-clause-halts : goal.returns-in-Err-clause-halts
 returns-in-Err-clause-halts g c = λ told disk_told.
