@@ -1,15 +1,17 @@
 -- Images that are refused open to nothing.
-use Rattle.std.proofs.Common.{◌≡◌, ⊎_elim, ℕ, zero, suc, ◌+◌, ◌-◌, ◌<◌, Bool, true, false, cond, Option, Some, None, List, length, refl, sym, ◌∙◌, ap, arith}
+use Rattle.std.proofs.Common.{◌≡◌, ℕ, zero, suc, ◌+◌, ◌-◌, ◌/◌, ◌<◌, Bool, true, false, cond, Option, Some, None, List, length, refl, sym, ◌∙◌, ap, arith}
 use Rattle.std.proofs.lemmas.Option.{none-some}
 use Rattle.block_layout.specs.declared.superblock.SuperField.{SuperField}
 use Rattle.block_layout.specs.Super.{blocks_named, inodes_named}
 use Rattle.gate_journal.specs.declared.batches.Batch.{Batch}
-use Rattle.gate_journal.specs.Batches.{batch_at, put_first, numbered, batch_then, batches_at}
+use Rattle.gate_journal.specs.Places.{records_start}
+use Rattle.gate_journal.specs.Batches.{batches_bytes, batch_at, put_first, numbered, batch_then, batches_at}
 use Rattle.gate_journal.specs.Journal.{open_gates, records_of, batches_read}
+use Rattle.gate_journal.specs.Reading.{Breaks}
 use Rattle.atomic_volume.specs.declared.fault.VolumeFault.{VolumeFault}
 use Rattle.atomic_volume.specs.declared.fault.VolumeFault.TheVariants.{Device, NoMemory, BadLength, BadSuper, BadJournal}
-use Rattle.atomic_volume.specs.Opening.{volume_area, active_half, superblock, wrong_field, batches_of, replayed, unless_wrong, opened, is_unbuilt}
-use Rattle.atomic_volume.specs.Refusals.{Refuses, IsBad, IsBroken}
+use Rattle.atomic_volume.specs.Opening.{volume_area, active_half, is_length, superblock, wrong_field, batches_of, replayed, unless_wrong, opened}
+use Rattle.atomic_volume.specs.Refusals.{Refuses, IsBad, IsLaidOut, IsBroken}
 use Rattle.atomic_volume.proofs.Replays.{opened_right}
 
 first_of_none : (b : Batch) (read : Option (List Batch × List ℕ)) → put_first b read ≡ None → read ≡ None
@@ -40,17 +42,73 @@ broken_batches c half batch block broken =
     reach : (batch gates : ℕ) → batch < gates → batch + 1 + (gates - (batch + 1)) ≡ gates
     reach batch gates less = omega (arith, less)
 
-true_is_not_false : true ≡ false → ⊥
-true_is_not_false is = grind arith
-
-pub refused_opens_to_nothing : (c : List ℕ) (fault : VolumeFault) → Refuses c fault → IsBad fault → is_unbuilt c ≡ false → opened c ≡ None
-refused_opens_to_nothing c Device says bad built = absurd bad
-refused_opens_to_nothing c NoMemory says bad built = absurd bad
-refused_opens_to_nothing c BadLength says bad built = ap (λ (b : Bool). cond b (unless_wrong (wrong_field c) (replayed (blocks_named (superblock c)) (inodes_named (superblock c)) (volume_area c) (batches_of c))) None) says
-refused_opens_to_nothing c (BadSuper field) says bad built =
+pub refused_opens_to_nothing : (c : List ℕ) (fault : VolumeFault) → Refuses c fault → IsBad fault → opened c ≡ None
+refused_opens_to_nothing c Device says bad = absurd bad
+refused_opens_to_nothing c NoMemory says bad = absurd bad
+refused_opens_to_nothing c BadLength says bad = ap (λ (b : Bool). cond b (unless_wrong (wrong_field c) (replayed (blocks_named (superblock c)) (inodes_named (superblock c)) (volume_area c) (batches_of c))) None) says
+refused_opens_to_nothing c (BadSuper field) says bad =
     ap (λ (b : Bool). cond b (unless_wrong (wrong_field c) (replayed (blocks_named (superblock c)) (inodes_named (superblock c)) (volume_area c) (batches_of c))) None) says.0
     ∙ ap (λ (w : Option SuperField). unless_wrong w (replayed (blocks_named (superblock c)) (inodes_named (superblock c)) (volume_area c) (batches_of c))) says.1
-refused_opens_to_nothing c (BadJournal half batch block) says bad built = ⊎_elim
-    (λ unbuilt. absurd (true_is_not_false (sym unbuilt.unbuilt ∙ built)))
-    (λ broken. opened_right c says.0 ∙ ap (replayed (blocks_named (superblock c)) (inodes_named (superblock c)) (volume_area c)) (broken_batches c half batch block broken))
-    says.1
+refused_opens_to_nothing c (BadJournal half batch block) says bad =
+    opened_right c says.0 ∙ ap (replayed (blocks_named (superblock c)) (inodes_named (superblock c)) (volume_area c)) (broken_batches c half batch block says.1)
+
+-- ---- and where an image opens to nothing, it is refused
+
+-- Of so many batches one is the first that breaks the format, at this place.
+abbrev FirstBroken : ℕ → ℕ → List ℕ → Type 0
+FirstBroken size n area = (batch : ℕ) × (batch < n) × (place : ℕ) × Breaks size area batch place
+
+first_step : (size n : ℕ) (area : List ℕ) (read : Option (List Batch × List ℕ)) → batches_at size None n area ≡ read → batches_at size None (suc n) area ≡ None
+    → (batches_at size None n area ≡ None → FirstBroken size n area) → FirstBroken size (suc n) area
+first_step size n area None is none before = let b = before is in (b.0, omega (arith, b.1), b.2, b.3)
+first_step size n area (Some read) is none before = (
+  n,
+  omega arith,
+  length (batches_bytes read.0),
+  record {
+    before = read.0;
+    rest = read.1;
+    whole = is;
+    broken = ap (λ (m : ℕ). batches_at size None m area) (let e : n + 1 ≡ suc n = omega arith in e) ∙ none;
+    start = refl;
+  },
+)
+
+first_broken : (size n : ℕ) (area : List ℕ) → batches_at size None n area ≡ None → FirstBroken size n area
+first_broken size zero area none = absurd (none-some _ (sym none))
+first_broken size (suc n) area none = first_step size n area (batches_at size None n area) refl none (first_broken size n area)
+
+unread : (o : Option (List Batch × List ℕ)) → batches_read o ≡ None → o ≡ None
+unread None is = refl
+unread (Some read) is = absurd (none-some _ (sym is))
+
+abbrev WhyNot : List ℕ → Type 0
+WhyNot c = (fault : VolumeFault) × IsBad fault × Refuses c fault
+
+by_journal : (c : List ℕ) → IsLaidOut c → (batches : Option (List Batch)) → batches_of c ≡ batches → opened c ≡ None → WhyNot c
+by_journal c right (Some all) is none =
+    absurd (none-some _ (sym none ∙ opened_right c right ∙ ap (replayed (blocks_named (superblock c)) (inodes_named (superblock c)) (volume_area c)) is))
+by_journal c right None is none =
+    let half = active_half c in let size = length (volume_area c) in let area = records_of half c in
+    let b = first_broken size (open_gates half c) area (unread (batches_at size None (open_gates half c) area) is) in (
+      BadJournal half b.0 ((records_start half + b.2) / 4096),
+      tt,
+      (
+        right,
+        record {
+          half_told = refl;
+          breaks = record { counts = b.1; place = b.2; breaks = b.3; in_block = refl };
+        },
+      ),
+    )
+
+by_field : (c : List ℕ) → is_length (length c) ≡ true → (wrong : Option SuperField) → wrong_field c ≡ wrong → opened c ≡ None → WhyNot c
+by_field c long (Some field) is none = (BadSuper field, tt, (long, is))
+by_field c long None is none = by_journal c (record { length_is = long; super_is = is }) (batches_of c) refl none
+
+by_length : (c : List ℕ) (right : Bool) → is_length (length c) ≡ right → opened c ≡ None → WhyNot c
+by_length c false is none = (BadLength, tt, is)
+by_length c true is none = by_field c is (wrong_field c) refl none
+
+pub nothing_opened_is_refused : (c : List ℕ) → opened c ≡ None → (fault : VolumeFault) × IsBad fault × Refuses c fault
+nothing_opened_is_refused c none = by_length c (is_length (length c)) refl none

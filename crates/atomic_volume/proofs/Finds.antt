@@ -3,6 +3,7 @@ use Rattle.std.proofs.Common.{◌≡◌, ◌≤◌, ℕ, List, false, sym, ◌�
 use Rattle.disk_model.specs.Moments.{Only, Elapses}
 use Rattle.disk_model.specs.declared.disk.Disk.{Ghosts}
 use Rattle.gate_journal.specs.Runs.{Quiet}
+use Rattle.atomic_volume.specs.Opened.{IsSettled}
 
 module _ {X : Type 0} (d : Ghosts X) (old mid new : X)
     (counts_mid : (t : ℕ) (c : List ℕ) → t ≤ d.moment mid → d.may_leave mid c → d.left_since mid t c)
@@ -19,17 +20,17 @@ module _ {X : Type 0} (d : Ghosts X) (old mid new : X)
     pub still : d.seen new ≡ d.seen mid
     still = quiet.contents settled
 
-    pub found_left : d.may_leave old (d.seen new)
+    found_left : d.may_leave old (d.seen new)
     found_left = subst (d.may_leave old) (sym still) was_left
 
-    pub found_seen : d.in_doubt old ≡ false → d.seen new ≡ d.seen old
+    found_seen : d.in_doubt old ≡ false → d.seen new ≡ d.seen old
     found_seen sure = still ∙ contents sure
 
     pub found_mid : (c : List ℕ) → d.may_leave new c → c ≡ d.seen mid
     found_mid c may = durable c (quiet.images.each c (counts_new (d.moment mid) c quiet.images.time.later may))
 
-    pub found_stable : Only (d.seen new) (d.may_leave new)
+    found_stable : Only (d.seen new) (d.may_leave new)
     found_stable c may = found_mid c may ∙ sym still
 
-    pub found_settled : d.in_doubt new ≡ false
-    found_settled = quiet.doubt settled
+    pub found_settled : IsSettled d old new
+    found_settled = record { one_of_them = found_left; as_seen = found_seen; stable = found_stable; sure = quiet.doubt settled }

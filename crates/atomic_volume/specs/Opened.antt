@@ -6,19 +6,20 @@ use Rattle.atomic_volume.specs.declared.fault.VolumeFault.{VolumeFault}
 use Rattle.atomic_volume.specs.Opening.{Contents, opened}
 use Rattle.atomic_volume.specs.Refusals.{Refuses}
 
--- The found contents of a disk were read: they are one of the images that a crash at the call's start might leave, and
--- what a read gave then where the disk wasn't in doubt. They are stable, and they open to this.
-pub record IsFound {X : Type 0} (d : Ghosts X) (old new : X) (contents : Contents) : Type 0 where
+-- The contents of a disk were made stable: they are one of the images that a crash at the call's start might leave, and what a
+-- read gave then where the disk wasn't in doubt. A crash leaves them and nothing else.
+pub record IsSettled {X : Type 0} (d : Ghosts X) (old new : X) : Type 0 where
   pub one_of_them : d.may_leave old (d.seen new)
   pub as_seen : d.in_doubt old ≡ false → d.seen new ≡ d.seen old
   pub stable : Only (d.seen new) (d.may_leave new)
-  pub settled : d.in_doubt new ≡ false
+  pub sure : d.in_doubt new ≡ false
+
+-- The contents of a disk were made stable, and they open to this.
+pub record IsFound {X : Type 0} (d : Ghosts X) (old new : X) (contents : Contents) : Type 0 where
+  pub settled : IsSettled d old new
   pub opens : opened (d.seen new) ≡ Some contents
 
--- A disk was refused: so one of the images that a crash might leave at the call's start is refused, and that is what a read
--- gave then where the disk wasn't in doubt.
-pub record IsRefused {X : Type 0} (d : Ghosts X) (old : X) (fault : VolumeFault) : Type 0 where
-  pub contents : List ℕ
-  pub one_of_them : d.may_leave old contents
-  pub as_seen : d.in_doubt old ≡ false → contents ≡ d.seen old
-  pub refuses : Refuses contents fault
+-- The contents of a disk were made stable, and they are refused with this.
+pub record IsRefused {X : Type 0} (d : Ghosts X) (old new : X) (fault : VolumeFault) : Type 0 where
+  pub settled : IsSettled d old new
+  pub refuses : Refuses (d.seen new) fault

@@ -2,15 +2,18 @@
 ghost use Rattle.std.specs.Prelude.{◌≡◌, ◌⊎◌, ◌+◌, ◌-◌, ◌*◌, ◌≤◌, true, false, List, ℕ, length, vec_len, Some, Err, IfErr, OnOk, OnErr};
 ghost use Rattle.fault_counts.specs.Counts.{Rose, RisesBy};
 ghost use Rattle.block_layout.specs.Sizes.{block_size, volume_start};
-ghost use Rattle.gate_journal.specs.Batches.{batch_bytes};
-ghost use Rattle.gate_journal.specs.Halves.{half_of, size_of, journal_of, fits, MayFollow, with_batch};
+ghost use Rattle.gate_journal.specs.Batches.{batch_bytes, range_bytes};
+ghost use Rattle.gate_journal.specs.Halves.{size_of, journal_of, fits, MayFollow, with_batch};
+ghost use Rattle.gate_journal.specs.Loading.{empty};
 ghost use Rattle.gate_journal.specs.Runs.{LeavesBy};
 ghost use Rattle.atomic_volume.specs.Opening.{opened};
 ghost use Rattle.atomic_volume.specs.Held.{contents_by, Holds};
 ghost use Rattle.atomic_volume.specs.Commits.{committed, AllOrNothing};
+ghost use Rattle.atomic_volume.specs.Homing.{at_home, IsMoved};
 ghost use Rattle.atomic_volume.specs.declared.fault.VolumeFault.TheVariants.{Device, NoMemory};
 
 use super::fault::VolumeFault;
+use super::homing::move_home;
 use super::putting::put_ranges;
 use block_layout::Geometry;
 use disk_model::Disk;
@@ -21,12 +24,11 @@ use gate_journal::{Batch, Half, JournalFault, Range};
 /// While no call on it failed, each image that a crash may leave opens to the committed bytes and the last batch's number.
 #[derive(Drop)]
 pub struct Volume<D: Disk> {
-    pub disk: D,
-    pub geometry: Geometry,
-    pub half: Half,
-    pub volume: Vec<u8>,
-    pub failed: bool,
-    pub ghost half_is: { half_of half ≡ 0 },
+    pub(crate) disk: D,
+    pub(crate) geometry: Geometry,
+    pub(crate) half: Half,
+    pub(crate) volume: Vec<u8>,
+    pub(crate) failed: bool,
     pub ghost size_is: { size_of half ≡ vec_len volume },
     pub ghost whole: { vec_len volume ≡ block_size * (geometry.blocks - volume_start) },
     pub ghost known_is: { D.known disk ≡ block_size * geometry.blocks },
@@ -131,6 +133,36 @@ impl<D: Disk> Volume<D> {
                 Err(VolumeFault::Device)
             }
             Err(JournalFault::NoMemory) => Err(VolumeFault::NoMemory),
+        }
+    }
+
+    /// Moves the batches of the active half home, and makes the other half, without batches, the active one.
+    ///
+    /// The bytes stay. At every moment a crash leaves an image that opens as one of before, or to the committed bytes without
+    /// open batches; after Ok it leaves only the latter, and the active half has room for 524,288 bytes. It takes no memory: `Device`
+    /// is the only answer beside Ok. It comes only where the disk's faults rose, and the volume has failed after it.
+    pub fn checkpoint(&mut self) -> Result<(), VolumeFault>
+        requires working { self.old.failed ≡ false }
+        ensures geometry { self.new.geometry ≡ self.old.geometry }
+        ensures bytes { self.new.volume.items ≡ self.old.volume.items }
+        ensures journal { OnOk result (journal_of self.new.half ≡ empty) }
+        ensures refused { OnErr result (journal_of self.new.half ≡ journal_of self.old.half) }
+        ensures any_moment { D.tells → LeavesBy D.Disk self.old.disk self.new.disk (IsMoved (contents_by self.old.geometry self.old.half self.old.volume.items) (D.may_leave self.old.disk)) }
+        ensures after { D.tells → OnOk result ((c : List ℕ) → D.may_leave self.new.disk c → opened c ≡ Some (at_home (contents_by self.old.geometry self.old.half self.old.volume.items))) }
+        ensures working { OnOk result (self.new.failed ≡ false) }
+        ensures faults { IfErr result (λ fault. (fault ≡ Device) × (self.new.failed ≡ true) × Rose (D.faults self.old.disk) (D.faults self.new.disk)) }
+        ensures later { D.faults self.old.disk ≤ D.faults self.new.disk }
+        ensures count { RisesBy (range_bytes (journal_of self.old.half).ranges + 4097) (D.written self.old.disk) (D.written self.new.disk) }
+    {
+        match move_home(&mut self.disk, &self.half) {
+            Ok(half) => {
+                self.half = half;
+                Ok(())
+            }
+            Err(fault) => {
+                self.failed = true;
+                Err(fault)
+            }
         }
     }
 }

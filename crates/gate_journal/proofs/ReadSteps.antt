@@ -9,9 +9,10 @@ use Rattle.std.proofs.lemmas.List.Elements.{All-nil, All-append, All-head, All-t
 use Rattle.byteorder.specs.Endian.{little_number}
 use Rattle.gate_journal.specs.declared.batches.Range.{Range}
 use Rattle.gate_journal.specs.declared.batches.Batch.{Batch}
-use Rattle.gate_journal.specs.Batches.{Stands, range_of, range_at, put_first, range_then, ranges_at, batch_of, batch_and, batch_behind, batch_at, numbered, batches_at}
+use Rattle.gate_journal.specs.Batches.{range_bytes, Stands, range_of, range_at, put_first, range_then, ranges_at, batch_of, batch_and, batch_behind, batch_at, numbered, batches_at}
 use Rattle.gate_journal.specs.Journal.{last_after, all_ranges}
 use Rattle.gate_journal.specs.Reading.{TellsFilled, IsPut, IsRead, Breaks}
+use Rattle.gate_journal.proofs.Bounds.{batches_within}
 use Rattle.gate_journal.proofs.ReadBatches.{read_front, read_step, put_last}
 
 -- ---- a record
@@ -141,6 +142,12 @@ so_far_read size n used area ranges last rest s u =
       used = omega (arith, ap length front.1, length-append front.0 rest, front.2, u);
       last = s.ends;
     }
+
+-- their ranges have no more bytes than they take
+pub so_far_bytes : (size n used : ℕ) (area : List ℕ) (ranges : List Range) (last : Option ℕ) (rest : List ℕ) → SoFar size n area ranges last rest → used ≡ length area - length rest → range_bytes ranges ≤ used
+so_far_bytes size n used area ranges last rest s u =
+    let read = so_far_read size n used area ranges last rest s u in
+    omega (arith, ap range_bytes read.ranges, batches_within read.batches, read.used)
 
 all_stand : (size : ℕ) (batches : List Batch) → All (λ b. All (Stands size) b.ranges) batches → All (Stands size) (all_ranges batches)
 all_stand size [] h = All-nil (Stands size)

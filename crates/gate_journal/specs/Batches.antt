@@ -1,6 +1,6 @@
 -- Batches as bytes, and the batches that bytes spell.
 use Rattle.std.specs.Prelude.{◌≡◌, ◌==◌, ℕ, zero, suc, ◌+◌, ◌≤◌, ◌<◌, ◌^◌, Bool, true, cond, ◌&&◌, nat_le, Option, Some, None, List, [], ◌∷◌, ◌++◌, length, take, drop, flat_map}
-use Rattle.std.specs.List.{All}
+use Rattle.std.specs.List.{All, sum_by}
 use Rattle.byteorder.specs.Endian.{little_bytes, little_number}
 use Rattle.gate_journal.specs.declared.batches.Range.{Range}
 use Rattle.gate_journal.specs.declared.batches.Batch.{Batch}
@@ -24,6 +24,10 @@ batch_bytes b = little_bytes 8 b.number ++ (little_bytes 4 (length (records_byte
 -- batches one behind the other: of two batches without records 32 bytes, the header of the first in front
 abbrev pub batches_bytes : List Batch → List ℕ
 batches_bytes batches = flat_map batch_bytes batches
+
+-- how many bytes ranges have: the ranges 7 8 and 9 have three
+abbrev pub range_bytes : List Range → ℕ
+range_bytes ranges = sum_by (λ r. length r.bytes) ranges
 
 -- ---- what may stand in a journal
 

@@ -1,5 +1,5 @@
 //! Bytes that become stable before the gate in front of them is opened.
-ghost use Rattle.std.specs.Prelude.{◌≡◌, ◌+◌, ◌≤◌, ◌<◌, [], ◌∷◌, length, false, OnOk};
+ghost use Rattle.std.specs.Prelude.{◌≡◌, ◌+◌, ◌≤◌, ◌<◌, List, ℕ, [], ◌∷◌, length, false, OnOk};
 ghost use Rattle.fault_counts.specs.Counts.{HasCause, RisesBy};
 ghost use Rattle.disk_model.specs.Bytes.{patched, Torn};
 ghost use Rattle.disk_model.specs.Moments.{Only, Follows, Elapses};
@@ -28,7 +28,7 @@ pub fn write_stable<D: Disk>(disk: &mut D, offset: u64, bytes: &[u8]) -> Result<
 }
 
 /// Writes bytes, makes them stable, opens the gate and makes that stable.
-pub fn put_behind_gate<D: Disk>(
+pub(crate) fn put_behind_gate<D: Disk>(
     disk: &mut D,
     gate: u64,
     at: u64,
@@ -41,7 +41,7 @@ pub fn put_behind_gate<D: Disk>(
     ensures cause { HasCause (D.faults disk.old) (D.faults disk.new) result }
     ensures count { RisesBy (length bytes.now + 1) (D.written disk.old) (D.written disk.new) }
     ensures time { D.tells → Elapses (D.moment disk.old) (D.moment disk.new) (D.left_since disk.old) (D.left_since disk.new) }
-    ensures crash { D.tells → Follows (Staged gate at bytes.now) (D.may_leave disk.old) (D.left_since disk.new (D.moment disk.old)) }
+    ensures crash { D.tells → (c : List ℕ) → D.left_since disk.new (D.moment disk.old) c → Staged gate at bytes.now (D.may_leave disk.old) (D.seen disk.old) c }
     ensures durable { D.tells → OnOk result (Only (D.seen disk.new) (D.may_leave disk.new)) }
     ensures put { D.tells → OnOk result (D.seen disk.new ≡ patched (patched (D.seen disk.old) at bytes.now) gate (165 ∷ [])) }
     ensures settled { D.tells → OnOk result (D.in_doubt disk.new ≡ false) }

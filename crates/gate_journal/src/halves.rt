@@ -1,6 +1,8 @@
 //! A journal half as it is known in memory.
 ghost use Rattle.std.specs.Prelude.{◌≡◌, ◌≤◌, ◌<◌, ◌^◌, true};
+ghost use Rattle.std.specs.List.{All};
 ghost use Rattle.gate_journal.specs.Places.{records_size};
+ghost use Rattle.gate_journal.specs.Batches.{Stands, range_bytes};
 
 use super::batches::{Batch, Range, Ranges};
 use super::places::{GATES, RECORDS_SIZE};
@@ -8,26 +10,51 @@ use super::reading::may_follow;
 use std::alloc::Global;
 
 /// One of the two journal halves of a disk: the batches that count, and where the next one stands.
+///
+/// Its ranges stand inside the volume, and have no more bytes than its batches take of the record area. Both hold on every
+/// disk, also on one that tells nothing.
 #[derive(Debug, Drop)]
 pub struct Half {
-    pub alloc: Global,
-    pub half: u8,
-    pub size: u64,
-    pub count: u32,
-    pub used: u32,
-    pub last: Option<u64>,
-    pub ranges: Ranges,
-    pub behind: bool,
+    pub(crate) alloc: Global,
+    pub(crate) half: u8,
+    pub(crate) size: u64,
+    pub(crate) count: u32,
+    pub(crate) used: u32,
+    pub(crate) last: Option<u64>,
+    pub(crate) ranges: Ranges,
+    pub(crate) behind: bool,
     pub ghost half_is: { half ≤ 1 },
     pub ghost count_is: { count ≤ 4096 },
     pub ghost used_is: { used ≤ records_size },
     pub ghost size_is: { size < 2 ^ 64 },
+    pub ghost stand_is: { All (Stands size) ranges },
+    pub ghost bytes_are: { range_bytes ranges ≤ used },
 }
 
 impl Half {
     ghost use Rattle.std.specs.Prelude.{length};
     ghost use Rattle.gate_journal.specs.Batches.{batch_bytes};
-    ghost use Rattle.gate_journal.specs.Halves.{size_of, journal_of, fits, MayFollow};
+    ghost use Rattle.gate_journal.specs.Halves.{half_of, size_of, journal_of, fits, MayFollow};
+
+    /// Which half it is, 0 or 1.
+    pub fn which(&self) -> u8
+        ensures which { result ≡ half_of self.now }
+        ensures one_of_two { result ≤ 1 }
+    {
+        self.half
+    }
+
+    /// The size of the volume, in bytes.
+    pub fn volume_bytes(&self) -> u64
+        ensures { result ≡ size_of self.now }
+    {
+        self.size
+    }
+
+    /// Where its ranges lie in memory.
+    pub fn alloc(&self) -> Global {
+        self.alloc
+    }
 
     /// Whether a batch of so many bytes, its header of 16 bytes included, has room in the record area and a gate, and no
     /// gate behind that one is open.

@@ -178,6 +178,8 @@ fn each_half_stands_at_its_own_places(rt: HostRuntime) -> Result<(), Fail> {
     put(&mut disk, RECORDS[1], &one_byte(4, 6, 2))?;
     let first = load(rt.alloc(), &mut disk, 0, VOLUME)?;
     let second = load(rt.alloc(), &mut disk, 1, VOLUME)?;
+    assert_eq!(rt; [first.which(), second.which()], [0, 1]);
+    assert_eq!(rt; second.volume_bytes(), VOLUME);
     assert_eq!(rt; [first.last(), second.last()], [None, Some(4)]);
     assert_eq!(rt; second.replay_list().len(), 1);
     assert_eq!(rt; second.replay_list()[0].off, 6);

@@ -5,7 +5,7 @@ ghost use Rattle.fault_counts.specs.Counts.{Rose, RisesBy, HasCause};
 ghost use Rattle.disk_model.specs.Bytes.{patched, Torn};
 ghost use Rattle.disk_model.specs.Moments.{Elapses, Follows};
 ghost use Rattle.gate_journal.specs.Places.{gates_start, records_size, halves_end};
-ghost use Rattle.gate_journal.specs.Batches.{Stands};
+ghost use Rattle.gate_journal.specs.Batches.{Stands, range_bytes};
 ghost use Rattle.gate_journal.specs.Journal.{is_open, records_of, open_gates, is_open_behind, open_batches, summed};
 ghost use Rattle.gate_journal.specs.Halves.{half_of, size_of, journal_of, Shows};
 ghost use Rattle.gate_journal.specs.Runs.{Quiet};
@@ -96,6 +96,7 @@ fn batches_of(
     ensures read { (c : List ℕ) → area.now ≡ records_of half c → count ≡ open_gates half c → IfOk result (λ read. (behind : Bool) → summed behind (open_batches half volume_bytes c) ≡ Some (journal_read behind count read)) }
     ensures refuses { (c : List ℕ) → area.now ≡ records_of half c → count ≡ open_gates half c → IfErr result (Refuses half volume_bytes c) }
     ensures stand { IfOk result (λ read. All (Stands volume_bytes) read.ranges) }
+    ensures bytes { IfOk result (λ read. range_bytes read.ranges ≤ read.used) }
     ensures used { IfOk result (λ read. read.used ≤ records_size) }
     ensures no_device { IfErr result (λ fault. fault ≢ Device) }
 {
@@ -124,6 +125,7 @@ fn load_batches<D: Disk>(
     ensures read { D.tells → D.in_doubt disk.old ≡ false → count ≡ open_gates half (D.seen disk.old) → IfOk result (λ read. (behind : Bool) → summed behind (open_batches half volume_bytes (D.seen disk.old)) ≡ Some (journal_read behind count read)) }
     ensures refuses { D.tells → D.in_doubt disk.old ≡ false → count ≡ open_gates half (D.seen disk.old) → IfErr result (Refuses half volume_bytes (D.seen disk.old)) }
     ensures stand { IfOk result (λ read. All (Stands volume_bytes) read.ranges) }
+    ensures bytes { IfOk result (λ read. range_bytes read.ranges ≤ read.used) }
     ensures used { IfOk result (λ read. read.used ≤ records_size) }
     ensures quiet { D.tells → Quiet D.Disk disk.old disk.new }
     ensures device { IfErr result (λ fault. fault ≡ Device → Rose (D.faults disk.old) (D.faults disk.new)) }

@@ -2,7 +2,7 @@
 ghost use Rattle.std.specs.Prelude.{◌≡◌, ◌≤◌, length, Some, None, MatchOption, MatchResult, IfOk};
 ghost use Rattle.std.specs.List.{All};
 ghost use Rattle.gate_journal.specs.Places.{records_size};
-ghost use Rattle.gate_journal.specs.Batches.{Stands, may_follow, range_at, batch_at, numbered};
+ghost use Rattle.gate_journal.specs.Batches.{Stands, range_bytes, may_follow, range_at, batch_at, numbered};
 ghost use Rattle.gate_journal.specs.Reading.{TellsFilled, IsPut, IsRead, WhyUnread};
 
 use super::batches::{Range, Ranges};
@@ -138,6 +138,7 @@ pub fn read_batches(
     requires { length area.now ≤ records_size }
     ensures read { MatchResult result (IsRead size count area.now) (WhyUnread size count area.now) }
     ensures stand { IfOk result (λ read. All (Stands size) read.ranges) }
+    ensures bytes { IfOk result (λ read. range_bytes read.ranges ≤ read.used) }
 {
     let mut ranges = Ranges::new(alloc);
     let mut last = None;

@@ -6,3 +6,5 @@ pub mod Written
 pub mod Levels
 pub mod Renumbered
 pub mod Carried
+pub mod Home
+pub mod Exact

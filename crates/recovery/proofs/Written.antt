@@ -1,9 +1,9 @@
 -- Images whose first blocks and tables are written.
-use Rattle.std.proofs.Common.{◌≡◌, ℕ, ◌+◌, ◌-◌, ◌*◌, ◌≤◌, Bool, false, eqb, eq-eqb, Option, Some, None, List, ◌++◌, length, get_or, take, drop, replicate, ◌%◌, ◌<◌, ◌&&◌, true, refl, sym, ◌∙◌, ap, arith, length-append, subst}
+use Rattle.std.proofs.Common.{◌≡◌, ℕ, ◌+◌, ◌-◌, ◌*◌, ◌≤◌, Bool, cond, eqb, eq-eqb, Option, Some, None, List, ◌++◌, length, get_or, take, drop, replicate, ◌%◌, ◌<◌, ◌&&◌, true, refl, sym, ◌∙◌, ap, arith, length-append, subst}
 use Rattle.std.proofs.lemmas.Bool.{le-leb}
-use Rattle.std.proofs.lemmas.List.{get_or_append_left, take-take, take_all, drop-take, drop-drop, take_at, drop_at, append_assoc, length-take-le, length-replicate, take-replicate, drop-replicate}
-use Rattle.disk_model.specs.Bytes.{part, patched, resized}
-use Rattle.disk_model.specs.Past.{length-patched, length-resized, Torn-patched}
+use Rattle.std.proofs.lemmas.List.{get_or-drop, get_or_append_left, take-take, take_all, drop-take, drop-drop, take_at, drop_at, append_assoc, length-take-le, length-replicate, take-replicate, drop-replicate}
+use Rattle.disk_model.specs.Bytes.{part, patched}
+use Rattle.disk_model.specs.Past.{length-patched, Torn-patched}
 use Rattle.disk_model.proofs.Places.{part-patched, torn_part_before}
 use Rattle.block_layout.specs.declared.geometry.Geometry.{Geometry}
 use Rattle.block_layout.specs.declared.superblock.SuperField.{SuperField}
@@ -15,15 +15,15 @@ use Rattle.image_model.specs.Trees.{tree_of}
 use Rattle.gate_journal.specs.Journal.{gates_of, is_open_behind, open_batches}
 use Rattle.gate_journal.specs.Loading.{empty}
 use Rattle.gate_journal.proofs.Closed.{closed_journal}
-use Rattle.atomic_volume.specs.Opening.{Contents, volume_area, or_blocks, superblock, put_on, replayed, opened, is_unbuilt}
+use Rattle.atomic_volume.specs.Opening.{Contents, volume_place, volume_area, or_blocks, superblock, put_on, replayed, opened, active_half}
 use Rattle.atomic_volume.specs.Refusals.{IsLaidOut}
 use Rattle.atomic_volume.specs.Held.{IsSized}
 use Rattle.atomic_volume.proofs.Bytes.{byte_read}
 use Rattle.atomic_volume.proofs.Laid.{quotient, good_length}
 use Rattle.atomic_volume.proofs.Replays.{known_from, opened_right, batches_are}
-use Rattle.image_model.specs.Fresh.{IsFresh as IsFreshVolume}
+use Rattle.image_model.specs.Fresh.{fresh_byte, IsFresh as IsFreshVolume}
 use Rattle.recovery.specs.Recovering.{volume_in, tree_held, if_opened, where_sound}
-use Rattle.recovery.specs.Fresh.{IsFresh, IsFront, AreTables}
+use Rattle.recovery.specs.Fresh.{IsFresh, front_bytes, AreTables}
 use Rattle.recovery.proofs.Standing.{fresh_stands}
 
 -- ---- what such an image opens to
@@ -32,6 +32,7 @@ use Rattle.recovery.proofs.Standing.{fresh_stands}
 -- volume.
 pub record Stands (g : Geometry) (c start : List ℕ) : Type 0 where
   pub long : length c ≡ 4096 * g.blocks
+  pub front : take 16384 c ≡ start ++ replicate 16348 0
   pub named : take 36 c ≡ start
   pub right : first_wrong start ≡ None
   pub blocks : blocks_named start ≡ g.blocks
@@ -62,11 +63,15 @@ laid_out g c start is =
 abbrev contents_of : Geometry → List ℕ → Contents
 contents_of g c = record { blocks = g.blocks; inodes = g.inodes; bytes = volume_area c; last = None }
 
+-- a byte of its metadata
+table_byte : (g : Geometry) (c start : List ℕ) (is : Stands g c start) (x : ℕ) → x < 4096 * (g.first_data - 260) → get_or (volume_area c) x 0 ≡ fresh_byte g.blocks g.inodes x
+table_byte g c start is x less =
+    let within : x < length is.tables = omega (arith, is.fresh.long, less) in
+    ap (λ (l : List ℕ). get_or l x 0) is.area ∙ get_or_append_left is.tables is.rest 0 x within ∙ is.fresh.fresh x within
+
 fresh_volume : (g : Geometry) (c start : List ℕ) → Stands g c start → IsFreshVolume (volume_in (contents_of g c))
 fresh_volume g c start is = record {
-  bytes = λ x h.
-      let within : x < length is.tables = omega (arith, is.fresh.long, g.first_data_place, h) in
-      ap (λ (l : List ℕ). get_or l x 0) is.area ∙ get_or_append_left is.tables is.rest 0 x within ∙ is.fresh.fresh x within;
+  bytes = λ x h. table_byte g c start is x (omega (arith, g.first_data_place, h));
 }
 
 -- it holds the root alone
@@ -80,20 +85,22 @@ alone_held g c start is =
     (fresh_volume g c start is) in
     ap (λ o. where_sound o (number v, tree_of v)) stands.0 ∙ (λ i. Some (stands.1 i, stands.2 i))
 
-pub fresh_where : (g : Geometry) (c start : List ℕ) → Stands g c start → IsFresh g c
-fresh_where g c start is =
-    let built : is_unbuilt c ≡ false = ap (λ (b : ℕ). eqb b 165) is.master in
+pub fresh_where : (g : Geometry) (c start : List ℕ) → start ≡ super_bytes g.blocks g.inodes → Stands g c start → IsFresh g c
+fresh_where g c start named is =
+    let active : 0 ≡ active_half c = sym (ap (λ (b : ℕ). cond (eqb b 165) 1 0) is.master) in
     let known = known_from (is_open_behind 0 c) (open_batches 0 (length (volume_area c)) c) empty (closed_journal is.gates 0 (length (volume_area c)) c is.closed) in
     let blocks : blocks_named (superblock c) ≡ g.blocks = ap blocks_named is.named ∙ is.blocks in
     let inodes : inodes_named (superblock c) ≡ g.inodes = ap inodes_named is.named ∙ is.inodes in
     let opens : opened c ≡ Some (contents_of g c) =
     opened_right c (laid_out g c start is)
-    ∙ ap (replayed (blocks_named (superblock c)) (inodes_named (superblock c)) (volume_area c)) (batches_are c 0 (length (volume_area c)) built refl refl ∙ known.are)
+    ∙ ap (replayed (blocks_named (superblock c)) (inodes_named (superblock c)) (volume_area c)) (batches_are c 0 (length (volume_area c)) active refl ∙ known.are)
     ∙ (λ i. Some (record { blocks = blocks i; inodes = inodes i; bytes = put_on (volume_area c) (known.ranges i); last = known.last i })) in
     record {
+      long = is.long;
+      front = is.front ∙ ap (λ (l : List ℕ). l ++ replicate 16348 0) named;
+      tables = λ x less. sym (get_or-drop volume_place c x 0) ∙ table_byte g c start is x less;
       contents = contents_of g c;
       opens = opens;
-      built = built;
       blocks = refl;
       inodes = refl;
       no_batch = refl;
@@ -132,63 +139,66 @@ whole_part old front tables place k m before inside within =
     torn_part_before place (length tables) k m (patched old 0 front) (patched (patched old 0 front) place tables) (Torn-patched (patched old 0 front) place tables (omega (arith, long, inside))) (omega (arith, within, before))
     ∙ front_part old front k m (omega (arith, before, inside)) within
 
-front_parts : (g : Geometry) (size len : ℕ) (old new start : List ℕ) → 36 ≤ size → old ≡ start → length start ≡ 36 → len ≡ 36 → new ≡ take size old ++ replicate (size - len) 0
-    → first_wrong start ≡ None → blocks_named start ≡ g.blocks → inodes_named start ≡ g.inodes → IsFront g size new
-front_parts g size len old new start room same start_long short is right blocks inodes =
-    let stands : new ≡ start ++ replicate (size - len) 0 = is ∙ ap (λ (l : List ℕ). take size l ++ replicate (size - len) 0) same ∙ ap (λ (l : List ℕ). l ++ replicate (size - len) 0) (take_all size start (omega (arith, start_long, room))) in
-    record {
-      superblock = start;
-      zeros = size - len;
-      stands = stands;
-      long = ap (λ (l : List ℕ). length l) stands ∙ omega (arith, length-append start (replicate (size - len) 0), length-replicate {A = ℕ} (size - len) 0, start_long, room, short);
-      superblock_long = start_long;
-      right = right;
-      blocks = blocks;
-      inodes = inodes;
-    }
-
 -- a superblock that is filled up with zeros
-pub front_is : (g : Geometry) (size len : ℕ) (old new : List ℕ) → 36 ≤ size → old ≡ super_bytes g.blocks g.inodes → len ≡ 36 → new ≡ take size old ++ replicate (size - len) 0
-    → first_wrong (super_bytes g.blocks g.inodes) ≡ None → blocks_named (super_bytes g.blocks g.inodes) ≡ g.blocks → inodes_named (super_bytes g.blocks g.inodes) ≡ g.inodes → IsFront g size new
-front_is g size len old new room same short is right blocks inodes = front_parts g size len old new (super_bytes g.blocks g.inodes) room same refl short is right blocks inodes
+pub filled_up : (size len : ℕ) (old new start : List ℕ) → 36 ≤ size → old ≡ start → length start ≡ 36 → len ≡ 36 → new ≡ take size old ++ replicate (size - len) 0 → new ≡ start ++ replicate (size - 36) 0
+filled_up size len old new start room same start_long short is =
+    is ∙ (λ i. take size (same i) ++ replicate (size - short i) 0)
+    ∙ ap (λ (l : List ℕ). l ++ replicate (size - 36) 0) (take_all size start (omega (arith, start_long, room)))
 
--- The sizes of what is written: of the image, of the front, and the place of the tables.
-pub record AreSizes (g : Geometry) (size front place : ℕ) : Type 0 where
+-- What is written in front: a superblock that names these sizes, and zeros behind it.
+pub record IsFront (g : Geometry) (start bytes : List ℕ) : Type 0 where
+  pub stands : bytes ≡ start ++ replicate 16348 0
+  pub start_long : length start ≡ 36
+  pub right : first_wrong start ≡ None
+  pub blocks : blocks_named start ≡ g.blocks
+  pub inodes : inodes_named start ≡ g.inodes
+
+-- The sizes of what is written: of the image, and the place of the tables.
+pub record AreSizes (g : Geometry) (size place : ℕ) : Type 0 where
   pub size_is : size ≡ 4096 * g.blocks
-  pub front_is : front ≡ 16384
   pub place_is : place ≡ 1064960
 
-made : (g : Geometry) (old front tables : List ℕ) (size long place : ℕ) → AreSizes g size long place → (is : IsFront g long front) → AreTables g tables
-    → Stands g (patched (patched (resized old size) 0 front) place tables) is.superblock
-made g old front tables size long place sizes is are =
-    let resized_long : length (resized old size) ≡ size = length-resized old size in
-    let front_long : length front ≡ 16384 = is.long ∙ sizes.front_is in
-    let room : place + length tables ≤ length (resized old size) = omega (arith, resized_long, are.long, sizes.size_is, sizes.place_is, g.data_to_the_end, g.least_data, g.first_data_place) in
+made : (g : Geometry) (old front tables start : List ℕ) (size place : ℕ) → AreSizes g size place → length old ≡ size → IsFront g start front → AreTables g tables
+    → Stands g (patched (patched old 0 front) place tables) start
+made g old front tables start size place sizes old_long is are =
+    let front_long : length front ≡ 16384 = ap (λ (l : List ℕ). length l) is.stands ∙ omega (arith, length-append start (replicate 16348 0), length-replicate {A = ℕ} 16348 0, is.start_long) in
+    let room : place + length tables ≤ length old = omega (arith, old_long, are.long, sizes.size_is, sizes.place_is, g.data_to_the_end, g.least_data, g.first_data_place) in
     let before : length front ≤ place = omega (arith, front_long, sizes.place_is) in
-    let behind : (k m : ℕ) → 36 ≤ k → k + m ≤ 16384 → part k m (patched (patched (resized old size) 0 front) place tables) ≡ replicate m 0 =
-    λ k m ge le. whole_part (resized old size) front tables place k m before room (omega (arith, front_long, le))
-    ∙ ap (λ (l : List ℕ). part k m l) is.stands
-    ∙ zero_part is.superblock is.zeros k m (omega (arith, is.superblock_long, ge)) (omega (arith, front_long, le, ap (λ (l : List ℕ). length l) is.stands, length-append is.superblock (replicate is.zeros 0), length-replicate {A = ℕ} is.zeros 0)) in
-    let middle_long : length (patched (resized old size) 0 front) ≡ length (resized old size) = length-patched (resized old size) 0 front (omega (arith, before, room)) in
+    let in_front : (k m : ℕ) → k + m ≤ 16384 → part k m (patched (patched old 0 front) place tables) ≡ part k m (start ++ replicate 16348 0) =
+    λ k m le. whole_part old front tables place k m before room (omega (arith, front_long, le)) ∙ ap (λ (l : List ℕ). part k m l) is.stands in
+    let behind : (k m : ℕ) → 36 ≤ k → k + m ≤ 16384 → part k m (patched (patched old 0 front) place tables) ≡ replicate m 0 =
+    λ k m ge le. in_front k m le ∙ zero_part start 16348 k m (omega (arith, is.start_long, ge)) (omega (arith, le, is.start_long)) in
+    let middle_long : length (patched old 0 front) ≡ length old = length-patched old 0 front (omega (arith, before, room)) in
     record {
-      long = length-patched (patched (resized old size) 0 front) place tables (omega (arith, middle_long, room)) ∙ middle_long ∙ resized_long ∙ sizes.size_is;
-      named = whole_part (resized old size) front tables place 0 36 before room (omega (arith, front_long)) ∙ ap (λ (l : List ℕ). take 36 l) is.stands ∙ take_at is.superblock (replicate is.zeros 0) 36 is.superblock_long;
+      long = length-patched (patched old 0 front) place tables (omega (arith, middle_long, room)) ∙ middle_long ∙ old_long ∙ sizes.size_is;
+      front = in_front 0 16384 (omega arith) ∙ take_all 16384 (start ++ replicate 16348 0) (omega (arith, length-append start (replicate 16348 0), length-replicate {A = ℕ} 16348 0, is.start_long));
+      named = in_front 0 36 (omega arith) ∙ take_at start (replicate 16348 0) 36 is.start_long;
       right = is.right;
       blocks = is.blocks;
       inodes = is.inodes;
-      master = byte_read 4096 (patched (patched (resized old size) 0 front) place tables) 0 (behind 4096 1 (omega arith) (omega arith));
+      master = byte_read 4096 (patched (patched old 0 front) place tables) 0 (behind 4096 1 (omega arith) (omega arith));
       gates = 4096;
       closed = behind 8192 4096 (omega arith) (omega arith);
       tables = tables;
-      rest = drop (place + length tables) (patched (resized old size) 0 front);
-      area = ap (λ (k : ℕ). drop k (patched (patched (resized old size) 0 front) place tables)) (sym sizes.place_is) ∙ from_place (patched (resized old size) 0 front) place tables (omega (arith, middle_long, room));
+      rest = drop (place + length tables) (patched old 0 front);
+      area = ap (λ (k : ℕ). drop k (patched (patched old 0 front) place tables)) (sym sizes.place_is) ∙ from_place (patched old 0 front) place tables (omega (arith, middle_long, room));
       fresh = are;
     }
 
--- what four calls leave
-pub made_by : (g : Geometry) (old first second third seen bytes front tables read : List ℕ) (size long place : ℕ) → AreSizes g size long place → IsFront g long front → bytes ≡ front
-    → AreTables g tables → read ≡ tables → first ≡ resized old size → second ≡ patched first 0 bytes → third ≡ patched second place read → seen ≡ third → IsFresh g seen
-made_by g old first second third seen bytes front tables read size long place sizes is same are tables_same a b c d =
-    let second_is : second ≡ patched (resized old size) 0 front = b ∙ (λ i. patched (a i) 0 (same i)) in
-    let whole : seen ≡ patched (patched (resized old size) 0 front) place tables = d ∙ c ∙ (λ i. patched (second_is i) place (tables_same i)) in
-    subst (IsFresh g) (sym whole) (fresh_where g (patched (patched (resized old size) 0 front) place tables) is.superblock (made g old front tables size long place sizes is are))
+made_on : (g : Geometry) (old front tables start : List ℕ) (size place : ℕ) → start ≡ super_bytes g.blocks g.inodes → AreSizes g size place → length old ≡ size → IsFront g start front → AreTables g tables
+    → IsFresh g (patched (patched old 0 front) place tables)
+made_on g old front tables start size place named sizes old_long is are =
+    fresh_where g (patched (patched old 0 front) place tables) start named (made g old front tables start size place sizes old_long is are)
+
+front_is : (g : Geometry) (front : List ℕ) → front ≡ front_bytes g 16384 → first_wrong (super_bytes g.blocks g.inodes) ≡ None → blocks_named (super_bytes g.blocks g.inodes) ≡ g.blocks
+    → inodes_named (super_bytes g.blocks g.inodes) ≡ g.inodes → IsFront g (super_bytes g.blocks g.inodes) front
+front_is g front is right blocks inodes = record { stands = is; start_long = refl; right = right; blocks = blocks; inodes = inodes }
+
+-- what two writes leave of an image that has its size
+pub made_by : (g : Geometry) (old second third seen bytes front tables read : List ℕ) (size place : ℕ) → AreSizes g size place → length old ≡ size → front ≡ front_bytes g 16384
+    → first_wrong (super_bytes g.blocks g.inodes) ≡ None → blocks_named (super_bytes g.blocks g.inodes) ≡ g.blocks → inodes_named (super_bytes g.blocks g.inodes) ≡ g.inodes
+    → bytes ≡ front → AreTables g tables → read ≡ tables → second ≡ patched old 0 bytes → third ≡ patched second place read → seen ≡ third → IsFresh g seen
+made_by g old second third seen bytes front tables read size place sizes old_long is right blocks inodes same are tables_same b c d =
+    let second_is : second ≡ patched old 0 front = b ∙ ap (λ (l : List ℕ). patched old 0 l) same in
+    let whole : seen ≡ patched (patched old 0 front) place tables = d ∙ c ∙ (λ i. patched (second_is i) place (tables_same i)) in
+    subst (IsFresh g) (sym whole) (made_on g old front tables (super_bytes g.blocks g.inodes) size place refl sizes old_long (front_is g front is right blocks inodes) are)

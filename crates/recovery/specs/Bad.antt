@@ -1,8 +1,8 @@
 -- Why an image doesn't recover: the first check that fails, and the block that is told.
-use Rattle.std.specs.Prelude.{◌≡◌, ℕ, false, Some, List}
+use Rattle.std.specs.Prelude.{◌≡◌, ℕ, Some, None, List}
 use Rattle.block_layout.specs.declared.superblock.SuperField.{SuperField}
 use Rattle.atomic_volume.specs.declared.fault.VolumeFault.TheVariants as volume
-use Rattle.atomic_volume.specs.Opening.{Contents, opened, is_unbuilt}
+use Rattle.atomic_volume.specs.Opening.{Contents, opened}
 use Rattle.atomic_volume.specs.Refusals.{Refuses}
 use Rattle.image_model.specs.declared.check.Check.{Check}
 use Rattle.image_model.specs.declared.check.Check.TheVariants as checks
@@ -11,14 +11,13 @@ use Rattle.image_check.specs.declared.kinds.BadKind.{BadKind}
 use Rattle.image_check.specs.declared.kinds.BadKind.TheVariants.{Size, Super, Journal, Format, Root, Record, Slot, Twin, Ring, Pointer, Bits, Counts}
 use Rattle.recovery.specs.declared.fault.OpenFault.{OpenFault}
 use Rattle.recovery.specs.declared.fault.OpenFault.TheVariants.{Device, Bad, NoMemory}
-use Rattle.recovery.specs.Recovering.{volume_in}
+use Rattle.recovery.specs.Recovering.{volume_in, recovered_for_now}
 
 -- An image opens as a volume, but this check of the volume is the first that fails, in this block. Until files have bytes and may
 -- stay open without a name, a file with bytes fails the check of records, and one without a name that of slots.
 pub record Fails (c : List ℕ) (check : Check) (block : ℕ) : Type 0 where
   pub contents : Contents
   pub opens : opened c ≡ Some contents
-  pub built : is_unbuilt c ≡ false
   pub first : first_failure_for_now contents.last (volume_in contents) ≡ Some (check, block)
 
 -- A kind says what is wrong with an image, and the block where: the length and the superblock are told in block 0, a broken
@@ -42,3 +41,13 @@ abbrev pub Says : List ℕ → OpenFault → Type 0
 Says c Device = Unit {0}
 Says c NoMemory = Unit {0}
 Says c (Bad bad) = IsBad c bad.kind bad.block
+
+-- ---- laws
+
+-- an image that is bad, of whatever kind, recovers to nothing
+abbrev pub BadRecoverToNothing : Type 0
+BadRecoverToNothing = (c : List ℕ) (kind : BadKind) (block : ℕ) → IsBad c kind block → recovered_for_now c ≡ None
+
+-- and one that recovers to nothing is bad, of some kind and in some block
+abbrev pub NothingIsBad : Type 0
+NothingIsBad = (c : List ℕ) → recovered_for_now c ≡ None → (kind : BadKind) × (block : ℕ) × IsBad c kind block

@@ -81,7 +81,7 @@ fn an_image_made_of_nothing_is_a_superblock_and_a_fresh_volume(
     make(rt.alloc(), &mut disk, &Geometry::of(512, 32)?)?;
     assert_eq!(rt;
         [disk.calls(), disk.faults(), disk.written()],
-        [4, 0, 4096 * 10]
+        [5, 0, 4096 * 10]
     );
     let bytes = contents(rt.alloc(), &mut disk)?;
     assert_eq!(rt; bytes.len(), 512 * 4096);
@@ -115,7 +115,7 @@ fn a_made_image_has_no_batch(rt: HostRuntime) -> Result<(), Fail> {
 
 #[test]
 fn a_failing_call_is_told(rt: HostRuntime) -> Result<(), Fail> {
-    for call in [1, 2, 3, 4] {
+    for call in [1, 2, 3, 4, 5] {
         let mut disk = old_disk(rt.alloc(), 4096)?;
         disk.plan(FailPlan::One {
             kind: CallKind::Any,

@@ -5,7 +5,7 @@ ghost use Rattle.disk_model.specs.Bytes.{patched};
 ghost use Rattle.disk_model.specs.Moments.{Only};
 ghost use Rattle.block_layout.specs.Sizes.{block_size, volume_start};
 ghost use Rattle.image_model.specs.Fresh.{fresh_counters};
-ghost use Rattle.recovery.specs.Fresh.{IsFresh, IsFront, AreTables};
+ghost use Rattle.recovery.specs.Fresh.{IsFresh, front_bytes, AreTables};
 ghost use Rattle.recovery.specs.declared.fault.MakeFault.TheVariants.{Device, NoMemory};
 
 use super::fault::MakeFault;
@@ -30,10 +30,8 @@ const FIXED_INODES: u8 = 3;
 /// So many bytes that begin with the superblock of these sizes. The rest is zeros.
 fn front_of(alloc: Global, geometry: &Geometry, size: usize) -> Result<Vec<u8>, AllocError>
     requires { 36 ≤ size }
-    ensures { IfOk result (λ front. IsFront geometry.now size front.items) }
+    ensures { IfOk result (λ front. front.items ≡ front_bytes geometry.now size) }
 {
-    // The law does nothing. It says that the superblock is right, and that it names these sizes.
-    written_is_read(geometry);
     let mut front = encode_super(geometry).to_vec(alloc)?;
     front.resize(size, 0)?;
     Ok(front)
@@ -88,11 +86,12 @@ fn fresh_tables(alloc: Global, geometry: &Geometry) -> Result<Vec<u8>, AllocErro
 /// Makes a fresh image of these sizes: the root alone, with the number 0. What stood on the disk before is gone, but for what
 /// its data blocks and record areas hold.
 ///
-/// It sets the size, writes the blocks before the record areas and those of the volume up to the data blocks, and syncs.
+/// It sets the size and syncs, so that no doubt is left of what stood there. Then it writes the blocks before the record areas
+/// and those of the volume up to the data blocks, and syncs again.
 /// `Device` comes only where the disk's faults rose, and `NoMemory` before any call on it.
 pub fn make<D: Disk>(alloc: Global, disk: &mut D, geometry: &Geometry) -> Result<(), MakeFault>
     requires { 64 * 2 ^ 20 ≤ D.most }
-    ensures fresh { D.tells → D.in_doubt disk.old ≡ false → OnOk result (IsFresh geometry.now (D.seen disk.new)) }
+    ensures fresh { D.tells → OnOk result (IsFresh geometry.now (D.seen disk.new)) }
     ensures stable { D.tells → OnOk result (Only (D.seen disk.new) (D.may_leave disk.new)) }
     ensures settled { D.tells → OnOk result (D.in_doubt disk.new ≡ false) }
     ensures known { OnOk result (D.known disk.new ≡ block_size * geometry.now.blocks) }
@@ -103,7 +102,10 @@ pub fn make<D: Disk>(alloc: Global, disk: &mut D, geometry: &Geometry) -> Result
 {
     let front = front_of(alloc, geometry, (FRONT_BLOCKS * BLOCK_SIZE) as usize)?;
     let tables = fresh_tables(alloc, geometry)?;
+    // The law does nothing. It says that the superblock is right, and that it names these sizes.
+    written_is_read(geometry);
     disk.set_size(geometry.bytes())?;
+    disk.sync()?;
     disk.write_at(0, &front)?;
     disk.write_at(u64::from(VOLUME_START * BLOCK_SIZE), &tables)?;
     disk.sync()?;

@@ -1,16 +1,21 @@
 //! Images that are opened for commits.
-ghost use Rattle.std.specs.Prelude.{◌≡◌, ◌≤◌, false, true, List, ℕ, Some, None, IfOk, IfErr, MatchResult};
-ghost use Rattle.fault_counts.specs.Counts.{Rose};
+ghost use Rattle.std.specs.Prelude.{◌≡◌, ◌⊎◌, ◌+◌, ◌≤◌, false, List, ℕ, Some, None, IfOk, IfErr, MatchResult};
+ghost use Rattle.fault_counts.specs.Counts.{Rose, RisesBy};
+ghost use Rattle.gate_journal.specs.Places.{records_size};
 ghost use Rattle.gate_journal.specs.Halves.{journal_of};
+ghost use Rattle.gate_journal.specs.Loading.{empty};
 ghost use Rattle.gate_journal.specs.Runs.{Quiet};
+ghost use Rattle.tree_model.specs.Rows.{Rows};
+ghost use Rattle.atomic_volume.specs.Opening.{Contents, opened};
 ghost use Rattle.atomic_volume.specs.Held.{contents_by};
 ghost use Rattle.image_model.specs.Volumes.{volume_of, table_of};
 ghost use Rattle.image_model.specs.Files.{file_bytes};
-ghost use Rattle.image_model.specs.Checks.{is_last, first_failure_for_now};
+ghost use Rattle.image_model.specs.Checks.{first_failure_for_now};
 ghost use Rattle.image_model.specs.Trees.{inodes_of};
 ghost use Rattle.recovery.specs.Recovering.{tree_held, recovered_for_now};
-ghost use Rattle.recovery.specs.Opens.{IsOpened, IsRefused};
-ghost use Rattle.recovery.specs.declared.fault.OpenFault.TheVariants.{Device};
+ghost use Rattle.image_check.specs.declared.kinds.BadImage.{BadImage};
+ghost use Rattle.recovery.specs.Opens.{Finds, IsRefused, IsFoundBad};
+ghost use Rattle.recovery.specs.declared.fault.OpenFault.TheVariants.{Device, Bad};
 
 use super::fault::{OpenFault, of_check, of_volume};
 use atomic_volume::{Found, Volume};
@@ -33,23 +38,30 @@ pub struct Opened<D: Disk> {
     pub number: u64,
 }
 
-/// Makes what stands on the disk stable, reads the tree that it recovers to, and makes its volume ready for commits. It
-/// writes nothing yet.
+/// Makes what stands on the disk stable, reads the tree that it recovers to, moves open batches home, and makes its volume
+/// ready for commits. The active half is then empty, and no batch is open.
 ///
-/// `Device` comes only where the disk's faults rose, and `Bad` where the image that was found holds no tree, with the first
-/// check that fails. Each refusal hands the disk back, its contents as they were.
+/// At every moment a crash leaves an image of the start, or one that recovers to the tree and the number that were found; after
+/// Ok it leaves only the latter. `Device` comes only where the disk's faults rose, and may come behind writes. `Bad` comes where
+/// what the sync made stable holds no tree, with the first check that fails. It and `NoMemory` come before any write. Each
+/// refusal hands the disk back. In all 528,385 bytes are written at most: the record area of a half, the gates of the other one,
+/// and the master byte.
 pub fn open<D: Disk>(alloc: Global, disk: D) -> Result<Opened<D>, Returned<OpenFault, D>>
-    ensures opened { D.tells → IfOk result (λ opened. IsOpened D.Disk disk opened.volume.disk opened.number opened.tree) }
-    ensures each { D.tells → IfOk result (λ opened. (c : List ℕ) → D.may_leave opened.volume.disk c → recovered_for_now c ≡ Some (opened.number, opened.tree)) }
-    ensures held { IfOk result (λ opened. tree_held (contents_by opened.volume.geometry opened.volume.half opened.volume.volume.items) ≡ Some (opened.number, opened.tree)) }
-    ensures sound { IfOk result (λ opened. first_failure_for_now None (volume_of opened.volume.geometry opened.volume.volume.items) ≡ None) }
-    ensures inodes { IfOk result (λ opened. opened.inodes ≡ inodes_of (table_of (volume_of opened.volume.geometry opened.volume.volume.items)) (file_bytes (volume_of opened.volume.geometry opened.volume.volume.items))) }
-    ensures last { IfOk result (λ opened. is_last (journal_of opened.volume.half).last opened.number ≡ true) }
-    ensures working { IfOk result (λ opened. opened.volume.failed ≡ false) }
+    ensures found { D.tells → IfOk result (λ done. Finds D.Disk disk done.volume.disk (contents_by done.volume.geometry done.volume.half done.volume.volume.items) (done.number, done.tree)) }
+    ensures each { D.tells → IfOk result (λ done. (c : List ℕ) → D.may_leave done.volume.disk c → recovered_for_now c ≡ Some (done.number, done.tree)) }
+    ensures home { D.tells → IfOk result (λ done. (c : List ℕ) → D.may_leave done.volume.disk c → opened c ≡ Some (contents_by done.volume.geometry done.volume.half done.volume.volume.items)) }
+    ensures journal { IfOk result (λ done. journal_of done.volume.half ≡ empty) }
+    ensures held { IfOk result (λ done. tree_held (contents_by done.volume.geometry done.volume.half done.volume.volume.items) ≡ Some (done.number, done.tree)) }
+    ensures sound { IfOk result (λ done. first_failure_for_now None (volume_of done.volume.geometry done.volume.volume.items) ≡ None) }
+    ensures inodes { IfOk result (λ done. done.inodes ≡ inodes_of (table_of (volume_of done.volume.geometry done.volume.volume.items)) (file_bytes (volume_of done.volume.geometry done.volume.volume.items))) }
+    ensures working { IfOk result (λ done. done.volume.failed ≡ false) }
     ensures refuses { D.tells → IfErr result (λ refused. IsRefused D.Disk disk refused.fault) }
-    ensures quiet { D.tells → MatchResult result (λ opened. Quiet D.Disk disk opened.volume.disk) (λ refused. Quiet D.Disk disk refused.kept) }
+    ensures bad { D.tells → IfErr result (λ refused. (bad : BadImage) → refused.fault ≡ Bad bad → IsFoundBad D.Disk disk refused.kept bad) }
+    ensures left { D.tells → IfErr result (λ refused. Quiet D.Disk disk refused.kept ⊎ (refused.fault ≡ Device) × ((home : Contents) × ((found : ℕ × Rows) × Finds D.Disk disk refused.kept home found))) }
+    ensures unwritten { IfErr result (λ refused. (D.written refused.kept ≡ D.written disk) ⊎ (refused.fault ≡ Device)) }
     ensures device { IfErr result (λ refused. refused.fault ≡ Device → Rose (D.faults disk) (D.faults refused.kept)) }
-    ensures later { MatchResult result (λ opened. D.faults disk ≤ D.faults opened.volume.disk) (λ refused. D.faults disk ≤ D.faults refused.kept) }
+    ensures later { MatchResult result (λ done. D.faults disk ≤ D.faults done.volume.disk) (λ refused. D.faults disk ≤ D.faults refused.kept) }
+    ensures count { MatchResult result (λ done. RisesBy (records_size + 4097) (D.written disk) (D.written done.volume.disk)) (λ refused. RisesBy (records_size + 4097) (D.written disk) (D.written refused.kept)) }
 {
     let found = match Found::open(alloc, disk) {
         Ok(found) => found,

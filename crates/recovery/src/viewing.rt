@@ -8,6 +8,7 @@ ghost use Rattle.recovery.specs.declared.fault.OpenFault.TheVariants.{Device};
 
 use super::fault::{OpenFault, of_check, of_volume};
 use atomic_volume::reading::read_image;
+use ccfs_base::NoMemory;
 use disk_model::Disk;
 use image_check::check;
 use std::alloc::Global;
@@ -20,6 +21,18 @@ pub struct Viewed {
     pub number: u64,
     /// The tree. Its serials are in preorder, entries in byte order of their names.
     pub tree: Tree,
+}
+
+impl Viewed {
+    /// The same once more.
+    pub fn copy(&self, alloc: Global) -> Result<Viewed, NoMemory>
+        ensures { IfOk result (λ viewed. viewed ≡ self.now) }
+    {
+        Ok(Viewed {
+            number: self.number,
+            tree: self.tree.copy(alloc)?,
+        })
+    }
 }
 
 /// Reads the tree that an image recovers to, without a sync or a write.

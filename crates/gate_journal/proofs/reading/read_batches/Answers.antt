@@ -1,6 +1,6 @@
 use Rattle.std.proofs.Common.{◌≡◌, ℕ, ◌-◌, List, length, refl, subst, arith}
 use Rattle.gate_journal.specs.Reading.{IsRead}
-use Rattle.gate_journal.proofs.ReadSteps.{so_far_more, so_far_breaks, so_far_read, so_far_stands, rest_within}
+use Rattle.gate_journal.proofs.ReadSteps.{so_far_more, so_far_breaks, so_far_read, so_far_stands, so_far_bytes, rest_within}
 use Rattle.gate_journal.proofs.reading.read_batches.Goals as goal
 
 pub overflow_sub-place : goal.overflow_sub-place
@@ -27,3 +27,6 @@ returns-clause-read c =
 
 pub returns-clause-stand : goal.returns-clause-stand
 returns-clause-stand c = so_far_stands c.args.size c.loop-batch.batch c.args.area.now c.loop-batch.ranges c.loop-batch.last c.loop-batch.rest.now c.loop-batch.invariant
+
+pub returns-clause-bytes : goal.returns-clause-bytes
+returns-clause-bytes c = so_far_bytes c.args.size c.loop-batch.batch (length c.args.area.now - length c.loop-batch.rest.now) c.args.area.now c.loop-batch.ranges c.loop-batch.last c.loop-batch.rest.now c.loop-batch.invariant refl
