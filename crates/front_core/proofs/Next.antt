@@ -54,7 +54,8 @@ use Rattle.front_core.specs.declared.planning.Plan.{Plan}
 use Rattle.front_core.proofs.Entering.{row_of_given}
 use Rattle.front_core.proofs.Laws.{next_kept, kept_states, may_be_logged, gave_dropped, built_weight, built_blocks}
 use Rattle.front_core.proofs.Planned.{no_blocks}
-use Rattle.front_core.proofs.Told.{weight_told, rows_told, sum_reverse}
+use Rattle.front_core.proofs.Told.{weight_told, rows_told}
+use Rattle.front_laws.proofs.BatchLight.{sum_reverse}
 use Rattle.front_core.proofs.Viewed.{known}
 
 -- ---- by the update

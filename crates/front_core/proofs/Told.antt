@@ -1,12 +1,11 @@
 -- What the parts tell of the unsealed updates.
-use Rattle.std.proofs.Common.{◌≡◌, ℕ, ◌+◌, List, [], ◌∷◌, ◌++◌, map, refl, ap, ◌∙◌, arith}
+use Rattle.front_laws.proofs.BatchLight.{sum_reverse}
+use Rattle.std.proofs.Common.{◌≡◌, ℕ, List, [], ◌∷◌, ◌++◌, map, refl, ap, ◌∙◌}
 use Rattle.std.specs.Prelude.{Bool, true, false, not, ◌&&◌, ◌||◌, ◌==◌, Some, reverse}
 use Rattle.std.specs.List.{list_any}
-use Rattle.std.proofs.lemmas.Grind.{reverse_onto}
 use Rattle.std.proofs.lemmas.List.Folds.{list_any-append}
 use Rattle.stream_cuts.specs.Streams.{keep_if, of_stream, without}
 use Rattle.stream_cuts.specs.Forced.{is_open, is_forced}
-use Rattle.stream_cuts.specs.Amounts.{sum_over}
 use Rattle.stream_txn.specs.declared.updates.Unsealed.{Unsealed}
 use Rattle.stream_txn.specs.Updates as txns
 use Rattle.stream_txn.specs.Accounts.{account_at}
@@ -58,17 +57,6 @@ pub open_told : (k : Kept) (inodes : List ℕ) (h : List (ℕ × Charged)) (s : 
 open_told k inodes h s a = (a.own s).is_open ∙ ap txns.has_any (txns_of_stream inodes s h) ∙ any_there inodes s h
 
 -- ---- sums
-
-module _ (f : ℕ × Charged → ℕ) where
-  sum_last : (h : List (ℕ × Charged)) (e : ℕ × Charged) → sum_over f (h ++ e ∷ []) ≡ sum_over f h + f e
-  sum_last [] e = (let z : f e + 0 ≡ 0 + f e = omega arith in z)
-  sum_last (d ∷ h) e = let r = sum_last h e in (let z : f d + sum_over f (h ++ e ∷ []) ≡ f d + sum_over f h + f e = omega (arith, r) in z)
-
-  pub sum_reverse : (h : List (ℕ × Charged)) → sum_over f (reverse h) ≡ sum_over f h
-  sum_reverse [] = refl
-  sum_reverse (e ∷ h) =
-      ap (sum_over f) (reverse_onto h e []) ∙ sum_last (reverse h) e ∙ ap (λ z. z + f e) (sum_reverse h)
-      ∙ (let z : sum_over f h + f e ≡ f e + sum_over f h = omega arith in z)
 
 pub weight_told : (k : Kept) (inodes : List ℕ) (h : List (ℕ × Charged)) (s : ℕ) → AreTxnsOf k (txns_of inodes h) → (account_at k.accounts s).weight ≡ unsealed_weight s h
 weight_told k inodes h s a =

@@ -32,11 +32,11 @@ use Rattle.front_laws.proofs.EmptyOps.{files_empty, all_take_none, all_bare_ops}
 
 -- ---- what the updates of a kept history weigh
 
-abbrev WeighsSo : ℕ × Charged → Type 0
+abbrev pub WeighsSo : ℕ × Charged → Type 0
 WeighsSo e = e.1.1.weight ≡ 512
 
 module _ (sizes : Sizes) (inodes : List ℕ) where
-  weigh_along : (calls : ℕ) (n : Now) (h : List Entry) → IsGoing sizes inodes calls n → IsLegal sizes n h
+  pub weigh_along : (calls : ℕ) (n : Now) (h : List Entry) → IsGoing sizes inodes calls n → IsLegal sizes n h
       → AllByRecursion (λ e. is_answered e.command ≡ true) h → AllByRecursion (λ e. IsTame e.update) h → AllHaveLowest sizes inodes n h
       → AllByRecursion WeighsSo (entered (charged_in sizes n h))
   weigh_along calls n [] g legal answered tame low = tt
@@ -46,7 +46,7 @@ module _ (sizes : Sizes) (inodes : List ℕ) where
       (entry_enters sizes WeighsSo n e.actor e.stream e.command e.reply e.update (λ u is. built_weight n.tree u g.plain (subst IsTame is tame.0).0))
       (weigh_along (suc calls) (entered_by sizes n e) h (going_next sizes inodes calls n e h g legal answered.0 tame.0 low.0) legal.2 answered.1 tame.1 low.1))
 
-all_weigh : (us : List (ℕ × Charged)) → AllByRecursion WeighsSo us → weight_of_all us ≡ 512 * length us
+pub all_weigh : (us : List (ℕ × Charged)) → AllByRecursion WeighsSo us → weight_of_all us ≡ 512 * length us
 all_weigh [] a = refl
 all_weigh (e ∷ us) a = let ih = all_weigh us a.1 in let w = a.0 in omega (arith, ih, w)
 

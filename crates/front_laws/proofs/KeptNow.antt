@@ -58,7 +58,7 @@ one_weight s [] a = refl
 one_weight s (e ∷ h) a = let ih = one_weight s h a.1 in let w = a.0 in
     elim (e.0 == s) as (λ b. sum_over (λ e. e.1.1.weight) (keep_if b e (of_stream s h)) ≡ 512 * length (keep_if b e (of_stream s h))) [ true ↦ omega (arith, ih, w) | false ↦ ih ]
 
-unsealed_in : (sizes : Sizes) (t : Rows) (h : List Entry) → unsealed_of sizes t (calls_by sizes (start t) h) ≡ (now_of sizes t h).unsealed
+pub unsealed_in : (sizes : Sizes) (t : Rows) (h : List Entry) → unsealed_of sizes t (calls_by sizes (start t) h) ≡ (now_of sizes t h).unsealed
 unsealed_in sizes t h = ap (unsealed_after []) (sym (steps_of_calls sizes (start t) h)) ∙ sym (unsealed_is sizes (start t) h)
 
 weigh_little : (sizes : Sizes) (t : Rows) (h : List Entry) (s : ℕ) → AllByRecursion (λ e. e.1.1.weight ≡ 512) (now_of sizes t h).unsealed

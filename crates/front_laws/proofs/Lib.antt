@@ -37,6 +37,7 @@ pub mod OpenSeals
 pub mod EmptyOps
 pub mod Covers
 pub mod CoverExamples
+pub mod BatchLight
 pub mod FileSets
 pub mod FilesHeld
 pub mod Contents

@@ -149,3 +149,8 @@ BatchesHaveTheirSize = (sizes : Sizes) (t : Rows) (inodes : List ℕ) (h : List 
 abbrev pub BatchesAct : Type 0
 BatchesAct = (sizes : Sizes) (t : Rows) (inodes : List ℕ) (h : List Entry) (k : ℕ) → IsKept sizes t inodes h
     → AllByRecursion (λ rec. 13 ≤ record_size rec) (batch_at sizes t inodes h k).recs
+
+-- and weigh together at most what a transaction may, so that each batch fits an empty half of the journal
+abbrev pub BatchesAreLight : Type 0
+BatchesAreLight = (sizes : Sizes) (t : Rows) (inodes : List ℕ) (h : List Entry) (k : ℕ) → IsKept sizes t inodes h → k < seal_count sizes (start t) h
+    → (batch_at sizes t inodes h k).weight ≤ transaction_limit

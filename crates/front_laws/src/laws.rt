@@ -1,5 +1,5 @@
 //! The laws: each is the contract of a function that changes nothing.
-ghost use Rattle.front_laws.specs.Laws.{HistoriesLeaveKeptStates, EmptyHistoriesAreKept, NextCallsAreKept, AFreeInodeIsThere, RowsFitBehindSeals, MoreInodesLeaveUpdates, UpdatesMayBeLogged, BatchesCarryOn, LongerKeepsBatches, SealsMakeBatches, BatchesHaveTheirSize, BatchesAct};
+ghost use Rattle.front_laws.specs.Laws.{HistoriesLeaveKeptStates, EmptyHistoriesAreKept, NextCallsAreKept, AFreeInodeIsThere, RowsFitBehindSeals, MoreInodesLeaveUpdates, UpdatesMayBeLogged, BatchesCarryOn, LongerKeepsBatches, SealsMakeBatches, BatchesHaveTheirSize, BatchesAct, BatchesAreLight};
 ghost use Rattle.front_laws.specs.Covers.{BatchesAreCovered};
 ghost use Rattle.front_laws.specs.Contents.{OperationsCarryOn};
 
@@ -74,6 +74,12 @@ pub fn batches_act()
 /// The weight of a batch covers it.
 pub fn batches_are_covered()
     ensures { BatchesAreCovered }
+{}
+
+/// A batch weighs at most what a transaction may: 262,144.
+#[tactic(auto, using(crate::proofs::BatchLight::batches_are_light))]
+pub fn batches_are_light()
+    ensures { BatchesAreLight }
 {}
 
 /// The operations of a batch leave the files of the volume with its records.

@@ -25,6 +25,7 @@ mod tests {
         batches_have_their_size();
         batches_act();
         batches_are_covered();
+        batches_are_light();
         operations_carry_on();
     }
 }
