@@ -1,5 +1,5 @@
 -- What a commit of the next batch leaves, and what a session's volume shows.
-use Rattle.std.proofs.Common.{◌≡◌, [], ◌∷◌, ℕ, suc, ◌+◌, ◌%◌, ◌≤◌, ◌<◌, ◌^◌, Bool, true, false, Option, Some, None, List, length, refl, sym, ◌∙◌, ap, subst, arith}
+use Rattle.std.proofs.Common.{◌≡◌, [], ◌∷◌, ℕ, suc, ◌+◌, ◌%◌, ◌≤◌, ◌<◌, ◌^◌, true, Option, Some, None, List, length, refl, sym, ◌∙◌, ap, subst, arith}
 use Rattle.std.specs.List.{All, AllByRecursion}
 use Rattle.std.proofs.lemmas.Bool.{eqb-true}
 use Rattle.std.proofs.lemmas.Bool.Decides.{nat_tests}
@@ -12,9 +12,9 @@ use Rattle.ccfs_base.specs.Records.{AreInside}
 use Rattle.gate_journal.specs.declared.batches.Batch.{Batch}
 use Rattle.gate_journal.specs.declared.batches.Range.{Range}
 use Rattle.gate_journal.specs.declared.halves.Half.{Half}
-use Rattle.gate_journal.specs.Batches.{batch_bytes, may_follow, Stands as StandsIn}
+use Rattle.gate_journal.specs.Batches.{may_follow, Stands as StandsIn}
 use Rattle.gate_journal.specs.Journal.{Journal}
-use Rattle.gate_journal.specs.Halves.{journal_of, fits, MayFollow, with_batch}
+use Rattle.gate_journal.specs.Halves.{journal_of, MayFollow}
 use Rattle.atomic_volume.specs.Opening.{Contents, put_on}
 use Rattle.atomic_volume.specs.Held.{contents_by}
 use Rattle.image_model.specs.Fields.{block_place}
@@ -40,7 +40,7 @@ use Rattle.front_core.specs.Fronts.{Fronted, seals_of}
 use Rattle.recovery.specs.Recovering.{volume_in, picture_shown}
 use Rattle.recovery.proofs.Carried.{carried_trees_are_shown}
 use Rattle.ccfs_top.specs.Runs.{further}
-use Rattle.ccfs_top.specs.Stages.{room_in, has_room, used_by}
+use Rattle.ccfs_top.specs.Taken.{recs_at, next_batch}
 use Rattle.ccfs_top.specs.Sessions.{Settled, Shows, cut_tree}
 use Rattle.carried_volumes.proofs.Standing.{carried_volumes_stand}
 use Rattle.front_laws.proofs.CarryOn.{batches_carry_on}
@@ -71,21 +71,6 @@ may_follow_on size j b first k is next stand = record {
   number = may_be_next j.last (further first k) b.number (further_small first k) is (next ∙ omega arith);
 }
 
--- ---- room
-
--- a batch of so many bytes that isn't accepted has no room
-pub no_room : (size : ℕ) (j : Journal) (b : Batch) (bytes : ℕ) (accepted : Bool) → (fits j (length (batch_bytes b)) ≡ true → MayFollow size j b → accepted ≡ true) → MayFollow size j b
-    → length (batch_bytes b) ≡ bytes → accepted ≡ false → has_room (room_in j) bytes ≡ false
-no_room size j b bytes accepted exact follows long not =
-    subst (λ (z : ℕ). fits j z ≡ false) long (either (fits j (length (batch_bytes b))) refl)
-  where
-    either : (fit : Bool) → fits j (length (batch_bytes b)) ≡ fit → fits j (length (batch_bytes b)) ≡ false
-    either true is = absurd (cc (exact is follows, not))
-    either false is = is
-
-pub room_left : (j j' : Journal) (b : Batch) (bytes : ℕ) → j' ≡ with_batch j b → length (batch_bytes b) ≡ bytes → room_in j' ≡ used_by (room_in j) bytes
-room_left j j' b bytes is long = ap room_in is ∙ ap (used_by (room_in j)) long
-
 -- ---- the metadata
 
 -- the metadata has its size
@@ -113,9 +98,18 @@ settled_shows g half bytes at_hand front first k settled last =
 
 -- ---- the next batch
 
--- the records of the batch behind so many seals
-abbrev pub recs_at : Fronted → ℕ → List Rec
-recs_at front k = (batch_at front.sizes front.opening front.inodes front.entries k).recs
+-- the batch of its records, under its number, is the next one
+pub is_next : (at_hand : List ℕ) (front : Fronted) (first k : ℕ) (b : Batch) (recs : List Rec) (number : ℕ) → recs ≡ recs_at front k → number ≡ further first (k + 1)
+    → b.number ≡ number → b.ranges ≡ ranges_by at_hand recs number → b ≡ next_batch at_hand front first k
+is_next at_hand front first k b recs number same next named ranges =
+    ap (λ (z : ℕ). record { number = z; ranges = b.ranges }) (named ∙ next)
+    ∙ ap (λ (z : List Range). record { number = further first (k + 1); ranges = z }) (ranges ∙ ap (λ (z : List Rec). ranges_by at_hand z number) same ∙ ap (ranges_by at_hand (recs_at front k)) next)
+
+-- and the metadata with it
+pub hand_after : (at_hand hand : List ℕ) (front : Fronted) (first k : ℕ) (recs : List Rec) (number : ℕ) → recs ≡ recs_at front k → number ≡ further first (k + 1)
+    → hand ≡ metadata_after at_hand recs number → hand ≡ metadata_after at_hand (recs_at front k) (further first (k + 1))
+hand_after at_hand hand front first k recs number same next after =
+    after ∙ ap (λ (z : List Rec). metadata_after at_hand z number) same ∙ ap (metadata_after at_hand (recs_at front k)) next
 
 module _ (g : Geometry) (bytes at_hand : List ℕ) (front : Fronted) (first k : ℕ) (settled : Settled g bytes at_hand front first k)
     (kept : IsKept front.sizes front.opening front.inodes front.entries) (more : k < seals_of front) where

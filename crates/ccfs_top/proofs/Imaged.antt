@@ -1,5 +1,5 @@
 -- What a session knows of the image that it was opened on.
-use Rattle.std.proofs.Common.{◌≡◌, ℕ, ◌-◌, ◌<◌, ◌^◌, List, length, refl, sym, ap, ◌∙◌, subst, arith}
+use Rattle.std.proofs.Common.{◌≡◌, ℕ, ◌-◌, ◌<◌, ◌^◌, List, refl, sym, ap, ◌∙◌, subst, arith}
 use Rattle.std.specs.declared.option.Option.{Option}
 use Rattle.std.specs.declared.option.Option.TheVariants.{None, Some}
 use Rattle.std.proofs.lemmas.Option.{same_Some}
@@ -8,10 +8,12 @@ use Rattle.block_layout.specs.Sizes.{data_start}
 use Rattle.tree_cuts.specs.Calls.{Sizes}
 use Rattle.tree_model.specs.Rows.{Rows}
 use Rattle.gate_journal.specs.declared.halves.Half.{Half}
-use Rattle.gate_journal.specs.Halves.{half_of, size_of, journal_of}
-use Rattle.gate_journal.specs.Journal.{journal}
-use Rattle.atomic_volume.specs.Opening.{Contents}
-use Rattle.atomic_volume.specs.Held.{contents_by, Holds}
+use Rattle.disk_model.specs.declared.disk.Disk.{Ghosts}
+use Rattle.recovery.specs.Opens.{Finds}
+use Rattle.atomic_volume.specs.Homing.{at_home}
+use Rattle.std.specs.Prelude.{option_map}
+use Rattle.atomic_volume.specs.Opening.{Contents, opened}
+use Rattle.atomic_volume.specs.Held.{contents_by}
 use Rattle.image_model.specs.declared.check.Check.{Check}
 use Rattle.image_model.specs.Reading.{IsWhole}
 use Rattle.image_model.specs.Volumes as volumes
@@ -21,7 +23,7 @@ use Rattle.image_model.specs.Trees.{inodes_of, tree_of}
 use Rattle.image_model.specs.Checks.{first_failure_for_now}
 use Rattle.carried_volumes.specs.Laws.{IsOpened}
 use Rattle.front_core.specs.Fronts.{Fronted, sizes_of, new_front}
-use Rattle.recovery.specs.Recovering.{volume_in, where_sound, tree_held, recovered_for_now}
+use Rattle.recovery.specs.Recovering.{volume_in, where_sound, tree_held}
 use Rattle.ccfs_top.specs.Images.{IsImage}
 use Rattle.ccfs_top.specs.Runs.{image_by, further}
 use Rattle.ccfs_top.specs.Sessions.{Settled}
@@ -72,15 +74,20 @@ module _ (g : Geometry) (half : Half) (bytes inodes : List ℕ) (n : ℕ) (t : R
         few = omega arith;
       })
 
--- the bytes that a volume holds are the image that its session counts with
-pub image_held : (number : ℕ) (tree : Rows) (geometry : Geometry) (half : Half) (bytes c : List ℕ) → Holds geometry half bytes c → size_of half ≡ length bytes
-    → recovered_for_now c ≡ Some (number, tree) → IsImage (image_by number tree geometry half) c
-image_held number tree geometry half bytes c holds size recovers = record {
-  recovers = recovers;
-  contents = contents_by geometry half bytes;
-  opens = holds.opens;
-  sizes_are = sizes_by geometry;
-  half = journal_of half;
-  journal_is = ap (λ (z : ℕ). journal z (length bytes) c) (sym holds.first) ∙ ap (λ (z : ℕ). journal (half_of half) z c) (sym size) ∙ holds.shows.journal;
-  room_is = refl;
-}
+home_of : (o : Option Contents) (home : Contents) → option_map at_home o ≡ Some home → (c : Contents) × (o ≡ Some c) × (at_home c ≡ home)
+home_of None home e = absurd (let z : ◌≡◌ {A = Option Contents} None (Some home) = e in cc)
+home_of (Some c) home e = (c, refl, same_Some (at_home c) home e)
+
+-- the image that an opening found is the one that its session counts with
+pub image_found : {X : Type 0} (d : Ghosts X) (old new : X) (number : ℕ) (front : Fronted) (geometry : Geometry) (half : Half) (bytes : List ℕ) → front.sizes ≡ sizes_of geometry
+    → (found : Finds d old new (contents_by geometry half bytes) (number, front.opening)) → IsImage (image_by number front) found.contents
+image_found d old new number front geometry half bytes sizes found =
+    let was = home_of (opened found.contents) (contents_by geometry half bytes) found.opens in
+    let blocks = ap (λ (z : Contents). z.blocks) was.2 in
+    let inodes = ap (λ (z : Contents). z.inodes) was.2 in
+    record {
+      recovers = found.recovers;
+      contents = was.0;
+      opens = was.1;
+      sizes_are = sizes ∙ sizes_by geometry ∙ (λ i. sized (sym blocks i - data_start (sym inodes i)) (sym inodes i));
+    }

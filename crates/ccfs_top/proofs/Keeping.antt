@@ -1,5 +1,5 @@
 -- What a crash leaves while a run goes on.
-use Rattle.std.proofs.Common.{◌≡◌, ◌⊎◌, inl, inr, ⊎_elim, ℕ, ◌+◌, ◌≤◌, ◌<◌, List, [], ◌∷◌, ◌++◌, length, take, get_or, sym, ap, ◌∙◌, subst, arith}
+use Rattle.std.proofs.Common.{◌≡◌, ◌⊎◌, inl, inr, ⊎_elim, ℕ, ◌+◌, ◌≤◌, ◌<◌, List, [], ◌∷◌, ◌++◌, length, get_or, sym, ap, ◌∙◌, subst, arith}
 use Rattle.std.specs.declared.option.Option.TheVariants.{Some}
 use Rattle.std.proofs.lemmas.List.{take_all}
 use Rattle.disk_model.specs.declared.disk.Disk.{Ghosts}
@@ -15,11 +15,11 @@ use Rattle.script_text.specs.declared.scripts.Call.{Call}
 use Rattle.recovery.specs.Recovering.{shown_for_now}
 use Rattle.ccfs_top.specs.Images.{Image}
 use Rattle.ccfs_top.specs.Stages.{called}
-use Rattle.ccfs_top.specs.Runs.{further, history, made_over, reply_lines, replies}
+use Rattle.ccfs_top.specs.Runs.{further, history, replies}
 use Rattle.ccfs_top.specs.Left.{Within, Kept, first_history}
 use Rattle.ccfs_top.proofs.Leaving.{leaves_join, leaves_wider}
 use Rattle.ccfs_top.proofs.Steps.{history_on}
-use Rattle.ccfs_top.proofs.Ending.{lines_to}
+use Rattle.ccfs_top.proofs.Ending.{length_lines}
 
 -- ---- images within a history
 
@@ -79,15 +79,14 @@ all_calls : (image : Image) (calls : List Call) (i j : ℕ) → length calls ≤
 all_calls image calls i j p q = ap (history image.sizes (start image.tree)) (take_all i calls p ∙ sym (take_all j calls q))
 
 -- a run of all calls
-pub kept_all : {X : Type 0} (d : Ghosts X) (old new : X) (image : Image) (calls : List Call) (i : ℕ) (h : List Entry) (written : ℕ) → length calls ≤ i → made_over image calls ≡ take i calls
+pub kept_all : {X : Type 0} (d : Ghosts X) (old new : X) (image : Image) (calls : List Call) (i : ℕ) (h : List Entry) (written : ℕ) → length calls ≤ i
     → h ≡ first_history image calls i → durable h ≡ written → written ≤ seal_count image.sizes (start image.tree) h
     → LeavesBy d old new (λ c. d.may_leave old c ⊎ Within image (first_history image calls i) 0 c)
     → ((c : List ℕ) → d.may_leave new c → shown_for_now c ≡ Some (further image.number written, picture (tree_at image.sizes (start image.tree) h written)))
     → Kept d old new image calls (length (replies image calls))
-kept_all d old new image calls i h written le made here acknowledged few before shows =
+kept_all d old new image calls i h written le here acknowledged few before shows =
     let lines = length (replies image calls) in
-    let whole : made_over image calls ≡ calls = made ∙ take_all i calls le in
-    let count : lines ≡ length calls = ap (λ (z : List Call). length (replies_of z)) (whole ∙ sym (take_all (length calls) calls (omega arith))) ∙ lines_to image.sizes image.tree calls (length calls) (omega arith) in
+    let count : lines ≡ length calls = length_lines image.sizes (start image.tree) calls in
     let first : first_history image calls i ≡ first_history image calls lines = all_calls image calls i lines le (omega (arith, count)) in
     let behind : first_history image calls i ≡ first_history image calls (lines + 1) = all_calls image calls i (lines + 1) le (omega (arith, count)) in
     record {
@@ -95,6 +94,3 @@ kept_all d old new image calls i h written le made here acknowledged few before 
       now = λ c left. subst (λ (z : ℕ). Within image (first_history image calls (lines + 1)) z c) (sym acknowledged ∙ ap durable (here ∙ first))
           (subst (λ (z : List Entry). Within image z written c) (here ∙ behind) (within_now image h written c few (shows c left)));
     }
-  where
-    replies_of : List Call → List (List ℕ)
-    replies_of cs = reply_lines (history image.sizes (start image.tree) cs)

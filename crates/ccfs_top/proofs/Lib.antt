@@ -6,6 +6,7 @@ pub mod Imaged
 pub mod Rooms
 pub mod Committing
 pub mod Leaving
+pub mod Commits
 pub mod Writing
 pub mod Stepping
 pub mod Steps
@@ -15,3 +16,4 @@ pub mod Going
 pub mod Finishing
 pub mod Closing
 pub mod Shelling
+pub mod Opened

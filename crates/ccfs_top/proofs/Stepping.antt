@@ -1,11 +1,9 @@
 -- What a session keeps when a call is made.
-use Rattle.std.proofs.Common.{◌≡◌, ℕ, ◌<◌, ◌≤◌, ◌&&◌, Bool, true, false, cond, Option, None, Some, List, [], ◌∷◌, ◌++◌, length, refl, sym, ◌∙◌, ap, subst, arith, length-append}
-use Rattle.std.specs.Prelude.{not, ◌||◌}
+use Rattle.std.proofs.Common.{◌≡◌, ℕ, ◌<◌, ◌≤◌, Bool, true, false, cond, Option, None, Some, List, [], ◌∷◌, ◌++◌, length, refl, sym, ◌∙◌, ap, subst, arith, length-append}
 use Rattle.std.specs.FinMap.{get}
 use Rattle.std.proofs.lemmas.List.{get_or_append_left}
 use Rattle.block_layout.specs.declared.geometry.Geometry.{Geometry}
 use Rattle.ccfs_base.specs.declared.commands.Command.{Command}
-use Rattle.gate_journal.specs.declared.halves.Half.{Half}
 use Rattle.tree_model.specs.declared.rows.Row.{Row}
 use Rattle.tree_model.specs.declared.rows.Update.{Update}
 use Rattle.tree_model.specs.declared.rows.Update.TheVariants.{Make, Write, Resize, Remove, Move, Release}
@@ -20,14 +18,12 @@ use Rattle.image_model.specs.CarriedLaws.{HaveSameInodes}
 use Rattle.image_model.proofs.CarriedSerials.{free_serials_may_change}
 use Rattle.carried_volumes.specs.Carried.{Carried, no_bytes}
 use Rattle.front_laws.specs.Inodes.{with_inode}
-use Rattle.front_laws.specs.Kept.{is_answered}
 use Rattle.front_core.specs.Fronts.{Fronted, seals_of, next_entry, next_history, IsActed}
 use Rattle.tree_model.specs.Picture.{picture}
 use Rattle.ccfs_top.specs.Runs.{further}
 use Rattle.ccfs_base.specs.declared.replies.Reply.{Reply}
-use Rattle.ccfs_top.specs.Stages.{Room, is_sync_form, is_blocked, have_room, sizes_from, all_sizes, called}
-use Rattle.ccfs_top.specs.Sessions.{Settled, HasUsed, ShowsOneOf, IsStepped, cut_tree, all_fit}
-use Rattle.ccfs_top.proofs.Rooms.{has_used_longer}
+use Rattle.ccfs_top.specs.Stages.{is_sync_form}
+use Rattle.ccfs_top.specs.Sessions.{Settled, ShowsOneOf, IsStepped, cut_tree}
 
 -- ---- more inodes
 
@@ -113,9 +109,6 @@ module _ (old new : Fronted) (longer : IsLonger old new) where
         few = omega (arith, few, more);
       }
 
-  pub used_longer : (room : Room) (k : ℕ) (half : Half) → k ≤ seals_of old → HasUsed room old k half → HasUsed room new k half
-  used_longer room k half le so_far = has_used_longer room old new k half longer.more longer.sizes longer.opening longer.entries le so_far
-
 -- ---- a call
 
 -- the inodes of rows that a volume carries are listed
@@ -154,50 +147,7 @@ shows_acted old new first least most actor c x acted le shows =
       shows = shows.shows ∙ ap (λ (z : Rows). Some (further first shows.cut, picture z)) (cuts_same old new acted.sizes acted.opening (next_history old actor c) acted.entries shows.cut);
     }
 
--- ---- what is blocked
-
--- the batches of the history with a call have room just where those of the front behind it have
-pub fit_acted : (room : Room) (old new : Fronted) (actor : ℕ) (c : Command) → IsActed old actor c new
-    → all_fit room new ≡ have_room room (all_sizes old.sizes old.opening (called old.sizes old.opening old.entries actor c))
-fit_acted room old new actor c acted =
-    ap (λ (z : Sizes). have_room room (all_sizes z new.opening new.entries)) acted.sizes
-    ∙ ap (λ (z : Rows). have_room room (all_sizes old.sizes z new.entries)) acted.opening
-    ∙ ap (λ (z : List Entry). have_room room (all_sizes old.sizes old.opening z)) acted.entries
-
-blocked_by : (answered sync fit : Bool) → answered ≡ true → (sync ≡ true → fit ≡ true) → not answered || (sync && not fit) ≡ false
-blocked_by true true true is fits = refl
-blocked_by true true false is fits = absurd (cc (fits refl))
-blocked_by true false fit is fits = refl
-blocked_by false sync fit is fits = absurd (cc is)
-
--- an answered call isn't blocked, where what it makes durable has room
-pub not_blocked : (room : Room) (old new : Fronted) (actor : ℕ) (c : Command) → IsActed old actor c new → is_answered c ≡ true → (is_sync_form c ≡ true → all_fit room new ≡ true)
-    → is_blocked old.sizes room old.opening old.entries actor c ≡ false
-not_blocked room old new actor c acted answered fits =
-    blocked_by (is_answered c) (is_sync_form c) _ answered (λ is. sym (fit_acted room old new actor c acted) ∙ fits is)
-
-blocked_so : (answered sync fit : Bool) → sync ≡ true → fit ≡ false → not answered || (sync && not fit) ≡ true
-blocked_so true true true is full = absurd (cc full)
-blocked_so true true false is full = refl
-blocked_so true false fit is full = absurd (cc is)
-blocked_so false sync fit is full = refl
-
--- a sync form whose batches don't all have room is blocked
-pub sync_blocked : (room : Room) (old new : Fronted) (actor : ℕ) (c : Command) → IsActed old actor c new → is_sync_form c ≡ true → all_fit room new ≡ false
-    → is_blocked old.sizes room old.opening old.entries actor c ≡ true
-sync_blocked room old new actor c acted is full = blocked_so (is_answered c) (is_sync_form c) _ is (sym (fit_acted room old new actor c acted) ∙ full)
-
--- and so is a command that isn't built
-pub unanswered_blocked : (sizes : Sizes) (room : Room) (t : Rows) (h : List Entry) (actor : ℕ) (c : Command) → is_answered c ≡ false → is_blocked sizes room t h actor c ≡ true
-unanswered_blocked sizes room t h actor c is = ap (λ (z : Bool). not z || (is_sync_form c && not (have_room room (all_sizes sizes t (called sizes t h actor c))))) is
-
 -- ---- a call that was performed
-
--- where its batches had room, and all were written
-pub all_fit_when : (room : Room) (mid new : Fronted) (n k : ℕ) (half : Half) → new ≡ record mid { handed = n } → k ≡ seals_of mid → HasUsed room new k half → all_fit room mid ≡ true
-all_fit_when room mid new n k half same written so_far =
-    let used : HasUsed room (record mid { handed = n }) k half = subst (λ (z : Fronted). HasUsed room z k half) same so_far in
-    ap (λ (z : ℕ). have_room room (sizes_from mid.sizes mid.opening mid.entries 0 z)) (sym written) ∙ used.fitted
 
 -- a sync form, behind which nothing waits
 pub stepped_sync : (old mid new : Fronted) (written written' actor : ℕ) (c : Command) (reply : Reply) → IsActed old actor c mid → reply ≡ (next_entry old actor c).reply

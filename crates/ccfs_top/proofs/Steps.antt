@@ -1,6 +1,6 @@
 -- One call more in a run.
-use Rattle.std.proofs.Common.{◌≡◌, ℕ, ◌+◌, ◌≤◌, ◌<◌, Bool, true, false, cond, List, [], ◌∷◌, ◌++◌, length, take, drop, get_or, refl, sym, ap, ◌∙◌, arith, append_assoc}
-use Rattle.std.proofs.lemmas.List.{append-nil, take_more, drop_more, drop_all, map-append}
+use Rattle.std.proofs.Common.{◌≡◌, ℕ, zero, suc, ◌+◌, ◌<◌, Bool, true, false, cond, List, [], ◌∷◌, ◌++◌, length, take, drop, get_or, refl, sym, ap, ◌∙◌, arith, append_assoc}
+use Rattle.std.proofs.lemmas.List.{append-nil, take_more, take-append-drop, map-append}
 use Rattle.std.specs.declared.option.Option.{Option}
 use Rattle.std.specs.declared.option.Option.TheVariants.{None, Some}
 use Rattle.std.specs.declared.result.Result.{Result}
@@ -28,9 +28,10 @@ use Rattle.history_model.specs.Answers.{Answer, answer, from_row, at_place}
 use Rattle.history_model.specs.Histories.{start, entered_by, entry_of, now_after, hist, seal_count, synced_number}
 use Rattle.history_model.proofs.Longer.{hist_append, hist_more, now_more, durable_more, seals_counted}
 use Rattle.script_text.specs.declared.scripts.Call.{Call}
+use Rattle.script_text.specs.Scripts.{is_built, first_unbuilt}
 use Rattle.front_laws.specs.Kept.{is_answered}
-use Rattle.ccfs_top.specs.Stages.{Room, is_blocked, is_sync_form, called}
-use Rattle.ccfs_top.specs.Runs.{asked, history, made, stopped, line_of, reply_lines}
+use Rattle.ccfs_top.specs.Stages.{is_sync_form, called}
+use Rattle.ccfs_top.specs.Runs.{asked, history, line_of, reply_lines}
 use Rattle.ccfs_top.specs.Ends.{joined}
 use Rattle.ccfs_top.specs.Reached.{history_to, Reached}
 
@@ -148,18 +149,41 @@ full_answer k d n a command.Sync sync = refl
 full_answer k d n a command.Flush sync = refl
 full_answer k d n a c sync = absurd (cc sync)
 
--- what isn't blocked is built
-pub built_of : (k : Sizes) (room : Room) (t : Rows) (h : List Entry) (a : ℕ) (c : Command) → is_blocked k room t h a c ≡ false → is_answered c ≡ true
-built_of k room t h a c free = go (is_answered c) _ free
-  where
-    go : (b x : Bool) → (not b || x) ≡ false → b ≡ true
-    go true x is = refl
-    go false x is = absurd (cc is)
+-- ---- commands that are built
 
--- how many seals are acknowledged after a call that isn't blocked: all where it is a sync form, else as many as before
-pub acknowledged_by : (k : Sizes) (room : Room) (t : Rows) (h : List Entry) (a : ℕ) (c : Command) (d : ℕ) → is_blocked k room t h a c ≡ false
+-- what a script may ask for, a front answers
+built_answered : (c : Command) → is_built c ≡ true → is_answered c ≡ true
+built_answered (command.Mkdir path) is = refl
+built_answered (command.Create path) is = refl
+built_answered (command.Unlink path) is = refl
+built_answered (command.Rmdir path) is = refl
+built_answered (command.Rename path to) is = refl
+built_answered (command.Stat path) is = refl
+built_answered (command.List path skip) is = refl
+built_answered (command.SetStream stream ignore) is = is
+built_answered command.StreamSync is = refl
+built_answered command.Sync is = refl
+built_answered command.Flush is = refl
+built_answered c is = absurd (cc is)
+
+first_built : (b : Bool) (o : Option ℕ) (line : ℕ) → cond b o (Some line) ≡ None → (b ≡ true) × (o ≡ None)
+first_built true o line is = (refl, is)
+first_built false o line is = absurd (cc is)
+
+each_built : (calls : List Call) (i : ℕ) (c : Call) → i < length calls → c ≡ get_or calls i c → first_unbuilt calls ≡ None → is_built c.command ≡ true
+each_built [] i c lt is none = absurd (omega (arith, lt))
+each_built (call ∷ calls) zero c lt is none = ap (λ (z : Call). is_built z.command) is ∙ (first_built (is_built call.command) (first_unbuilt calls) call.line none).0
+each_built (call ∷ calls) (suc i) c lt is none =
+    each_built calls i c (omega (arith, lt)) is (first_built (is_built call.command) (first_unbuilt calls) call.line none).1
+
+-- each call of a script whose calls are all built is answered
+pub each_answered : (calls : List Call) (i : ℕ) (c : Call) → i < length calls → c ≡ get_or calls i c → first_unbuilt calls ≡ None → is_answered c.command ≡ true
+each_answered calls i c lt is none = built_answered c.command (each_built calls i c lt is none)
+
+-- how many seals are acknowledged after a call that is answered: all where it is a sync form, else as many as before
+pub acknowledged_by : (k : Sizes) (t : Rows) (h : List Entry) (a : ℕ) (c : Command) (d : ℕ) → is_answered c ≡ true
     → cond (is_sync_form c) (seal_count k (start t) (called k t h a c)) d ≡ synced_number d (entry_of k (now_after k (start t) h) a c).reply
-acknowledged_by k room t h a c d free = go (is_sync_form c) refl
+acknowledged_by k t h a c d answered = go (is_sync_form c) refl
   where
     n : Now
     n = now_after k (start t) h
@@ -174,7 +198,7 @@ acknowledged_by k room t h a c d free = go (is_sync_form c) refl
 
     go : (b : Bool) → is_sync_form c ≡ b → cond b (seal_count k (start t) (called k t h a c)) d ≡ synced_number d e.reply
     go true sync = counted ∙ sym (full_answer k d n a c sync)
-    go false other = sym (quiet_answer k d n a c (built_of k room t h a c free) other).is
+    go false other = sym (quiet_answer k d n a c answered other).is
 
 -- ---- one call more
 
@@ -185,58 +209,17 @@ history_on k t calls i c lt is =
     ∙ ap (hist k (start t)) (map-append (λ (z : Call). (z.actor, z.command)) (take i calls) (c ∷ []))
     ∙ hist_more k (start t) (asked (take i calls)) (c.actor, c.command)
 
-rest_is : (calls : List Call) (i : ℕ) (c : Call) → i < length calls → c ≡ get_or calls i c → drop i calls ≡ c ∷ drop (i + 1) calls
-rest_is calls i c lt is = drop_more calls i c lt ∙ ap (λ (z : Call). z ∷ drop (i + 1) calls) (sym is)
+pub reached_start : (k : Sizes) (t : Rows) (calls : List Call) → Reached k t calls 0 [] 0
+reached_start k t calls = record { entries = refl; acknowledged = refl }
 
-front_is : (calls : List Call) (i : ℕ) (c : Call) → i < length calls → c ≡ get_or calls i c → take (i + 1) calls ≡ take i calls ++ c ∷ []
-front_is calls i c lt is = take_more calls i c lt ∙ ap (λ (z : Call). take i calls ++ z ∷ []) (sym is)
-
-pub reached_start : (k : Sizes) (room : Room) (t : Rows) (calls : List Call) → Reached k room t calls 0 [] 0
-reached_start k room t calls = record { entries = refl; made_so_far = refl; stop = refl; acknowledged = refl }
-
-pub reached_on : (k : Sizes) (room : Room) (t : Rows) (calls : List Call) (i : ℕ) (c : Call) (h : List Entry) (d d' : ℕ) → i < length calls → c ≡ get_or calls i c
-    → Reached k room t calls i h d → is_blocked k room t h c.actor c.command ≡ false → d' ≡ synced_number d (entry_of k (now_after k (start t) h) c.actor c.command).reply
-    → Reached k room t calls (i + 1) (called k t h c.actor c.command) d'
-reached_on k room t calls i c h d d' lt is r free synced =
-    let on = called k t h c.actor c.command in
-    let go : made k room t h (drop i calls) ≡ c ∷ made k room t on (drop (i + 1) calls) =
-    ap (made k room t h) (rest_is calls i c lt is) ∙ ap (λ (b : Bool). cond b [] (c ∷ made k room t on (drop (i + 1) calls))) free in
-    let halt : stopped k room t h (drop i calls) ≡ stopped k room t on (drop (i + 1) calls) =
-    ap (stopped k room t h) (rest_is calls i c lt is) ∙ ap (λ (b : Bool). cond b (Some c.line) (stopped k room t on (drop (i + 1) calls))) free in
-    record {
-      entries = ap (λ (z : List Entry). called k t z c.actor c.command) r.entries ∙ sym (history_on k t calls i c lt is);
-      made_so_far = r.made_so_far ∙ ap (λ (z : List Call). take i calls ++ z) go
-          ∙ sym (append_assoc (take i calls) (c ∷ []) (made k room t on (drop (i + 1) calls)))
-          ∙ ap (λ (z : List Call). z ++ made k room t on (drop (i + 1) calls)) (sym (front_is calls i c lt is));
-      stop = r.stop ∙ halt;
-      acknowledged = durable_more h (entry_of k (now_after k (start t) h) c.actor c.command)
-          ∙ ap (λ (z : ℕ). synced_number z (entry_of k (now_after k (start t) h) c.actor c.command).reply) r.acknowledged ∙ sym synced;
-    }
-
--- ---- where a run ends
-
--- at a call that is blocked
-pub blocked_made : (k : Sizes) (room : Room) (t : Rows) (calls : List Call) (i : ℕ) (c : Call) (h : List Entry) (d : ℕ) → i < length calls → c ≡ get_or calls i c
-    → Reached k room t calls i h d → is_blocked k room t h c.actor c.command ≡ true → made k room t [] calls ≡ take i calls
-blocked_made k room t calls i c h d lt is r blocked =
-    r.made_so_far ∙ ap (λ (z : List Call). take i calls ++ z) (ap (made k room t h) (rest_is calls i c lt is)
-    ∙ ap (λ (b : Bool). cond b [] (c ∷ made k room t (called k t h c.actor c.command) (drop (i + 1) calls))) blocked) ∙ append-nil (take i calls)
-
-pub blocked_stop : (k : Sizes) (room : Room) (t : Rows) (calls : List Call) (i : ℕ) (c : Call) (h : List Entry) (d : ℕ) → i < length calls → c ≡ get_or calls i c
-    → Reached k room t calls i h d → is_blocked k room t h c.actor c.command ≡ true → stopped k room t [] calls ≡ Some c.line
-blocked_stop k room t calls i c h d lt is r blocked =
-    r.stop ∙ ap (stopped k room t h) (rest_is calls i c lt is)
-    ∙ ap (λ (b : Bool). cond b (Some c.line) (stopped k room t (called k t h c.actor c.command) (drop (i + 1) calls))) blocked
-
--- at the end of the calls
-pub all_made : (k : Sizes) (room : Room) (t : Rows) (calls : List Call) (i : ℕ) (h : List Entry) (d : ℕ) → length calls ≤ i → Reached k room t calls i h d
-    → made k room t [] calls ≡ take i calls
-all_made k room t calls i h d le r =
-    r.made_so_far ∙ ap (λ (z : List Call). take i calls ++ made k room t h z) (drop_all i calls le) ∙ append-nil (take i calls)
-
-pub none_stopped : (k : Sizes) (room : Room) (t : Rows) (calls : List Call) (i : ℕ) (h : List Entry) (d : ℕ) → length calls ≤ i → Reached k room t calls i h d
-    → stopped k room t [] calls ≡ None
-none_stopped k room t calls i h d le r = r.stop ∙ ap (stopped k room t h) (drop_all i calls le)
+pub reached_on : (k : Sizes) (t : Rows) (calls : List Call) (i : ℕ) (c : Call) (h : List Entry) (d d' : ℕ) → i < length calls → c ≡ get_or calls i c
+    → Reached k t calls i h d → d' ≡ synced_number d (entry_of k (now_after k (start t) h) c.actor c.command).reply
+    → Reached k t calls (i + 1) (called k t h c.actor c.command) d'
+reached_on k t calls i c h d d' lt is r synced = record {
+  entries = ap (λ (z : List Entry). called k t z c.actor c.command) r.entries ∙ sym (history_on k t calls i c lt is);
+  acknowledged = durable_more h (entry_of k (now_after k (start t) h) c.actor c.command)
+      ∙ ap (λ (z : ℕ). synced_number z (entry_of k (now_after k (start t) h) c.actor c.command).reply) r.acknowledged ∙ sym synced;
+}
 
 -- ---- the reply lines
 
@@ -245,13 +228,13 @@ lines_more [] e = append-nil (line_of e)
 lines_more (d ∷ h) e = ap (λ (z : List ℕ). line_of d ++ z) (lines_more h e) ∙ sym (append_assoc (line_of d) (joined (reply_lines h)) (line_of e))
 
 -- the reply lines so far stand first among all
-pub lines_first : (k : Sizes) (room : Room) (t : Rows) (calls : List Call) (i : ℕ) (h : List Entry) (d : ℕ) → Reached k room t calls i h d
-    → (g : List (List ℕ)) × (reply_lines (history k (start t) (made k room t [] calls)) ≡ reply_lines (history_to k (start t) calls i) ++ g)
-lines_first k room t calls i h d r =
+pub lines_first : (k : Sizes) (t : Rows) (calls : List Call) (i : ℕ)
+    → (g : List (List ℕ)) × (reply_lines (history k (start t) calls) ≡ reply_lines (history_to k (start t) calls i) ++ g)
+lines_first k t calls i =
     let n = now_after k (start t) (history_to k (start t) calls i) in
-    let rest = made k room t h (drop i calls) in (
+    let rest = drop i calls in (
       reply_lines (history k n rest),
-      ap (λ (z : List Call). reply_lines (history k (start t) z)) r.made_so_far
+      ap (λ (z : List Call). reply_lines (history k (start t) z)) (sym (take-append-drop i calls))
           ∙ ap (λ (z : List (ℕ × Command)). reply_lines (hist k (start t) z)) (map-append (λ (z : Call). (z.actor, z.command)) (take i calls) rest)
           ∙ ap reply_lines (hist_append k (start t) (asked (take i calls)) (asked rest))
           ∙ map-append line_of (history_to k (start t) calls i) (history k n rest),

@@ -11,8 +11,8 @@ use Rattle.front_laws.specs.Batches.{batch_at, batches_from}
 use Rattle.front_laws.specs.Kept.{IsKept}
 use Rattle.history_model.proofs.Longer.{seals_counted}
 use Rattle.front_core.specs.Fronts.{Fronted, seals_of, waiting}
-use Rattle.ccfs_top.specs.Stages.{Room}
-use Rattle.ccfs_top.specs.Sessions.{Settled, HasUsed, ShowsOneOf}
+use Rattle.ccfs_top.specs.Taken.{HasTaken}
+use Rattle.ccfs_top.specs.Sessions.{Settled, ShowsOneOf}
 use Rattle.front_laws.proofs.KeptNow.{histories_leave_kept_states}
 use Rattle.ccfs_top.proofs.Leaving.{one_of_more}
 
@@ -45,14 +45,12 @@ handed_to n front = record front { handed = n }
 pub settled_handed : (g : Geometry) (bytes at_hand : List ℕ) (front : Fronted) (n first k : ℕ) → Settled g bytes at_hand front first k → Settled g bytes at_hand (handed_to n front) first k
 settled_handed g bytes at_hand front n first k settled = record { sizes = settled.sizes; carried = settled.carried; copied = settled.copied; number = settled.number; few = settled.few }
 
-pub used_handed : (room : Room) (front : Fronted) (n k : ℕ) (half : Half) → HasUsed room front k half → HasUsed room (handed_to n front) k half
-used_handed room front n k half so_far = record { used = so_far.used; fitted = so_far.fitted }
-
-pub used_back : (room : Room) (front : Fronted) (n k : ℕ) (half : Half) → HasUsed room (handed_to n front) k half → HasUsed room front k half
-used_back room front n k half so_far = record { used = so_far.used; fitted = so_far.fitted }
-
 pub shows_back : (front : Fronted) (n first least most : ℕ) (c : List ℕ) → ShowsOneOf (handed_to n front) first least most c → ShowsOneOf front first least most c
 shows_back front n first least most c shows = record { cut = shows.cut; enough = shows.enough; few = shows.few; shows = shows.shows }
+
+-- what a half has taken does not depend on what was handed out
+pub taken_handed : (front new : Fronted) (n k most : ℕ) (h h' : Half) → new ≡ handed_to n front → HasTaken front k most h h' → HasTaken new k most h h'
+taken_handed front new n k most h h' same taken = subst (λ (z : Fronted). HasTaken z k most h h') (sym same) taken
 
 -- ---- how many seals there are
 

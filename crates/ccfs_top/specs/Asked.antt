@@ -1,8 +1,9 @@
 -- What the words of the command line ask for.
-use Rattle.std.specs.Prelude.{ℕ, ◌≤◌, ◌^◌, Bool, false, eqb, ◌&&◌, cond, Option, Some, None, List, length, codes, String, string_bytes, bytes_eq, slice_get}
+use Rattle.std.specs.Prelude.{◌≡◌, ℕ, ◌≤◌, ◌^◌, Bool, false, eqb, ◌&&◌, cond, Option, Some, None, List, length, codes, String, string_bytes, bytes_eq, slice_get}
 use Rattle.std.specs.declared.alloc.Global.{Global}
 use Rattle.block_layout.specs.Sizes.{good_blocks, good_inodes}
 use Rattle.script_text.specs.Numbers.{number_of}
+use Rattle.ccfs_top.specs.Ends.{IsMadeStatus, IsTreeStatus, IsRunStatus}
 use Rattle.ccfs_top.specs.declared.words.Row.{Row}
 use Rattle.ccfs_top.specs.declared.words.Row.TheVariants as row
 
@@ -50,3 +51,10 @@ abbrev pub asked_of : Row → Asked
 asked_of row.Run = Run
 asked_of row.Tree = Tree
 asked_of (row.Mkfs geometry) = Mkfs geometry.blocks geometry.inodes
+
+-- the statuses that a call may end with, by what the words ask for
+abbrev pub IsStatusOf : Option Asked → ℕ → Type 0
+IsStatusOf None code = code ≡ 2
+IsStatusOf (Some (Mkfs blocks inodes)) code = IsMadeStatus code
+IsStatusOf (Some Run) code = IsRunStatus code
+IsStatusOf (Some Tree) code = IsTreeStatus code

@@ -66,12 +66,35 @@ pub record ByFault (e : Expected) (sink_failed : Type 0) (lines code : ℕ) (wri
 abbrev pub Ends : Expected → Type 0 → ℕ → ℕ → List ℕ → Type 0
 Ends e sink_failed lines status written = AsExpected e sink_failed lines status written ⊎ BySink e sink_failed lines status written ⊎ ByFault e sink_failed lines status written
 
--- the end by its status alone, with so many of the reply lines
+-- The end by its status alone, with so many of the reply lines: all of them where it is the expected one. The sink counts as failed
+-- only where the end was to be status 0.
 pub record EndsWith (e : Expected) (lines code number : ℕ) : Type 0 where
   pub status : (code ≡ e.status) ⊎ IsFault code
   pub batches : code ≡ e.status → number ≡ e.batches
   pub few : lines ≤ length e.replies
+  pub all : code ≡ e.status → lines ≡ length e.replies
+  pub sink : code ≡ 6 → e.status ≡ 0
 
 -- the text grew from old to new as the end says
 abbrev pub Wrote : Expected → Type 0 → ℕ → ℕ → List ℕ → List ℕ → Type 0
 Wrote e sink_failed lines status old new = (written : List ℕ) × (new ≡ old ++ written) × Ends e sink_failed lines status written
+
+-- ---- the statuses that there are
+
+-- of an image that is made, of a tree that is printed, and of a script that is run
+abbrev pub IsMadeStatus : ℕ → Type 0
+IsMadeStatus code = (code ≡ 0) ⊎ (code ≡ 6) ⊎ (code ≡ 7) ⊎ (code ≡ 9)
+
+abbrev pub IsTreeStatus : ℕ → Type 0
+IsTreeStatus code = (code ≡ 0) ⊎ ((6 ≤ code) × (code ≤ 9))
+
+abbrev pub IsRunStatus : ℕ → Type 0
+IsRunStatus code = (code ≤ 9) × (code ≡ 2 → ⊥)
+
+-- those by which words or a script are refused, or the script isn't read: the disk has no call before
+abbrev pub IsEarly : ℕ → Type 0
+IsEarly code = (1 ≤ code) × (code ≤ 5)
+
+-- those by which a script is refused: a line that isn't built, one that isn't a command, or too many bytes
+abbrev pub IsRefusal : ℕ → Type 0
+IsRefusal code = (code ≡ 1) ⊎ (code ≡ 3) ⊎ (code ≡ 4)

@@ -1,22 +1,18 @@
 -- What a run finds on a disk.
-use Rattle.std.specs.Prelude.{◌≡◌, ℕ, ◌-◌, Some, List, length}
+use Rattle.std.specs.Prelude.{◌≡◌, ℕ, ◌-◌, Some, List}
 use Rattle.tree_model.specs.Rows.{Rows}
-use Rattle.gate_journal.specs.Journal.{Journal, journal}
 use Rattle.atomic_volume.specs.Opening.{Contents, opened}
 use Rattle.image_check.specs.declared.kinds.BadKind.{BadKind}
 use Rattle.recovery.specs.Recovering.{recovered_for_now}
 use Rattle.block_layout.specs.Sizes.{data_start}
 use Rattle.tree_cuts.specs.Calls.{Sizes}
 use Rattle.recovery.specs.Bad.{IsBad}
-use Rattle.ccfs_top.specs.Stages.{Room, room_in}
 
--- An image as a run counts with it: the number and the tree that it recovers to, its data blocks and inodes, and the room in
--- its half 0.
+-- An image as a run counts with it: the number and the tree that it recovers to, and its data blocks and inodes.
 pub record Image : Type 0 where
   pub number : ℕ
   pub tree : Rows
   pub sizes : Sizes
-  pub room : Room
 
 -- these bytes are that image
 pub record IsImage (image : Image) (c : List ℕ) : Type 0 where
@@ -24,9 +20,6 @@ pub record IsImage (image : Image) (c : List ℕ) : Type 0 where
   pub contents : Contents
   pub opens : opened c ≡ Some contents
   pub sizes_are : image.sizes ≡ record { data_blocks = contents.blocks - data_start contents.inodes; inodes = contents.inodes }
-  pub half : Journal
-  pub journal_is : journal 0 (length contents.bytes) c ≡ Some half
-  pub room_is : image.room ≡ room_in half
 
 -- What is found: something to go on with, or an image that is bad so in that block. Or nothing was read, since the disk
 -- failed or memory was wanting first.

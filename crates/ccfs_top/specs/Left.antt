@@ -11,13 +11,18 @@ use Rattle.tree_model.specs.Picture.{picture}
 use Rattle.history_model.specs.Histories.{start, seal_count, tree_at, durable}
 use Rattle.script_text.specs.declared.scripts.Call.{Call}
 use Rattle.gate_journal.specs.Runs.{LeavesBy, Quiet}
+use Rattle.atomic_volume.specs.Opening.{Contents}
+use Rattle.recovery.specs.Opens as opens
+use Rattle.recovery.specs.Bad.{Says}
+use Rattle.recovery.specs.declared.fault.OpenFault.{OpenFault}
+use Rattle.recovery.specs.declared.fault.OpenFault.TheVariants as open_fault
 use Rattle.recovery.specs.Recovering.{shown_for_now}
 use Rattle.ccfs_top.specs.declared.stop.Stop.{Stop}
 use Rattle.ccfs_top.specs.Found.{IsFound}
 use Rattle.ccfs_top.specs.Images.{Image, IsImage, Finding, Holds, Spoilt, Unread, Finds, RecoversTo}
 use Rattle.ccfs_top.specs.Runs.{Expected, further, ran, calls_in, expected, over, printed}
 use Rattle.ccfs_top.specs.Ends.{EndsWith, Wrote, joined}
-use Rattle.ccfs_top.specs.Stops.{Decides, Grew}
+use Rattle.ccfs_top.specs.Stops.{Decides, Grew, status_of}
 use Rattle.ccfs_top.specs.Reached.{history_to}
 
 -- Bytes within a history over an image: they show the picture of the tree after one of its seals, with the number of that
@@ -40,26 +45,71 @@ pub record Kept {X : Type 0} (d : Ghosts X) (old new : X) (image : Image) (calls
   pub ever : LeavesBy d old new (λ c. d.may_leave old c ⊎ Within image (first_history image calls (lines + 1)) 0 c)
   pub now : (c : List ℕ) → d.may_leave new c → Within image (first_history image calls (lines + 1)) (durable (first_history image calls lines)) c
 
--- what a run leaves, by what it found: without a session it only reads
-abbrev pub Leaves : {X : Type 0} → Ghosts X → X → X → List Call → Finding Image → ℕ → Type 0
-Leaves d old new calls (Holds image) lines = Kept d old new image calls lines
-Leaves d old new calls (Spoilt kind block) lines = Quiet d old new
-Leaves d old new calls Unread lines = Quiet d old new
+-- the statuses of a disk that failed and of want of memory
+abbrev pub IsDiskEnd : ℕ → Type 0
+IsDiskEnd code = (code ≡ 7) ⊎ (code ≡ 9)
 
--- A stop of a run over what was found: what was expected has it, and so many whole reply lines were written.
-pub record Halts {X : Type 0} (d : Ghosts X) (old new : X) (calls : List Call) (seen : Finding Image) (e : Expected) (stop : Stop) (sink_tells : Type 0) (text0 text1 : List ℕ) : Type 0 where
+-- These bytes were found, and their batches went home, or some: each image left since the start is one of the start, or recovers to
+-- the number and the tree that the found bytes recover to.
+pub record Homed {X : Type 0} (d : Ghosts X) (old new : X) (found : List ℕ) : Type 0 where
+  pub home : Contents
+  pub to : ℕ × Rows
+  pub finds : opens.Finds d old new home to
+  pub same : finds.contents ≡ found
+
+-- what a run leaves that ends with this status and came to no session, though the image isn't bad: it only read, or the disk failed
+-- or memory was wanting once batches went home
+abbrev pub Unopened : {X : Type 0} → Ghosts X → X → X → List ℕ → ℕ → Type 0
+Unopened d old new found code = Quiet d old new ⊎ (IsDiskEnd code × Homed d old new found)
+
+-- what a refusal leaves: only of a good image it can be more than readings
+abbrev pub LeftBy : {X : Type 0} → Ghosts X → X → X → List ℕ → OpenFault → Type 0
+LeftBy d old new found open_fault.Device = Unopened d old new found 7
+LeftBy d old new found (open_fault.Bad bad) = Quiet d old new
+LeftBy d old new found open_fault.NoMemory = Unopened d old new found 9
+
+-- A disk that wasn't opened: what was found on it, which is bad as the fault says, and what is left.
+pub record IsShut {X : Type 0} (d : Ghosts X) (old new : X) (fault : OpenFault) : Type 0 where
+  pub found : List ℕ
+  pub from_start : IsFound (d.may_leave old) (d.in_doubt old) (d.seen old) found
+  pub says : Says found fault
+  pub left : LeftBy d old new found fault
+
+-- what a run leaves that ends with this status, by what it found; so many whole reply lines were written
+abbrev pub Leaves : {X : Type 0} → Ghosts X → X → X → List Call → List ℕ → Finding Image → ℕ → ℕ → Type 0
+Leaves d old new calls found (Holds image) code lines = Kept d old new image calls lines
+Leaves d old new calls found (Spoilt kind block) code lines = Quiet d old new
+Leaves d old new calls found Unread code lines = Unopened d old new found code
+
+-- A stop of a run: what was expected has it, so many whole reply lines were written, and so much is left then.
+pub record Halts (e : Expected) (stop : Stop) (Left : ℕ → Type 0) (sink_tells : Type 0) (text0 text1 : List ℕ) : Type 0 where
   pub lines : ℕ
   pub few : lines ≤ length e.replies
   pub decides : Decides e stop
-  pub leaves : Leaves d old new calls seen lines
+  pub leaves : Left lines
   pub grew : sink_tells → Grew e stop lines text0 text1
 
 -- A run over an image that came to its end, with this number.
 pub record Done {X : Type 0} (d : Ghosts X) (old new : X) (calls : List Call) (image : Image) (number : ℕ) (sink_tells : Type 0) (text0 text1 : List ℕ) : Type 0 where
-  pub status : (ran image calls).status ≡ 0
   pub batches : number ≡ (ran image calls).batches
   pub kept : Kept d old new image calls (length (ran image calls).replies)
   pub text : sink_tells → text1 ≡ text0 ++ (joined (ran image calls).replies ++ (ran image calls).last)
+
+-- The same over the image that was found on a disk.
+pub record DoneOn {X : Type 0} (d : Ghosts X) (old new : X) (calls : List Call) (number : ℕ) (sink_tells : Type 0) (text0 text1 : List ℕ) : Type 0 where
+  pub found : List ℕ
+  pub from_start : IsFound (d.may_leave old) (d.in_doubt old) (d.seen old) found
+  pub image : Image
+  pub finds : IsImage image found
+  pub done : Done d old new calls image number sink_tells text0 text1
+
+-- A stop of a run over a disk, where this is to come of what is found.
+pub record HaltsOn {X : Type 0} (d : Ghosts X) (old new : X) (calls : List Call) (to_come : Finding Image → Expected) (stop : Stop) (sink_tells : Type 0) (text0 text1 : List ℕ) : Type 0 where
+  pub found : List ℕ
+  pub from_start : IsFound (d.may_leave old) (d.in_doubt old) (d.seen old) found
+  pub seen : Finding Image
+  pub finds : Finds IsImage found seen
+  pub halts : Halts (to_come seen) stop (Leaves d old new calls found seen (status_of stop)) sink_tells text0 text1
 
 -- A run of a script: what it found on the disk, how it ended, what it left there, and what it wrote.
 pub record Ran {X : Type 0} (d : Ghosts X) (old new : X) (script : List ℕ) (sink_tells sink_failed : Type 0) (code number : ℕ) (text0 text1 : List ℕ) : Type 0 where
@@ -69,7 +119,7 @@ pub record Ran {X : Type 0} (d : Ghosts X) (old new : X) (script : List ℕ) (si
   pub finds : Finds IsImage found seen
   pub lines : ℕ
   pub ends : EndsWith (expected script seen) lines code number
-  pub leaves : Leaves d old new (calls_in (calls_of script)) seen lines
+  pub leaves : Leaves d old new (calls_in (calls_of script)) found seen code lines
   pub wrote : sink_tells → Wrote (expected script seen) sink_failed lines code text0 text1
 
 -- A tree that is printed, or why it isn't, where these were the contents of the disk.

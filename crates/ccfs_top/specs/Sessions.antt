@@ -1,10 +1,9 @@
 -- What a session keeps of its front and its volume, and what a crash leaves on its way.
-use Rattle.std.specs.Prelude.{◌≡◌, ℕ, ◌≤◌, Bool, true, cond, Some, List}
+use Rattle.std.specs.Prelude.{◌≡◌, ℕ, ◌≤◌, cond, Some, List}
 use Rattle.ccfs_base.specs.declared.commands.Command.{Command}
 use Rattle.ccfs_base.specs.declared.replies.Reply.{Reply}
 use Rattle.block_layout.specs.declared.geometry.Geometry.{Geometry}
 use Rattle.gate_journal.specs.declared.halves.Half.{Half}
-use Rattle.gate_journal.specs.Halves.{journal_of}
 use Rattle.tree_model.specs.declared.picturing.Item.{Item}
 use Rattle.tree_model.specs.Rows.{Rows}
 use Rattle.tree_model.specs.Picture.{picture}
@@ -16,7 +15,7 @@ use Rattle.recovery.specs.Recovering.{picture_shown, shown_for_now}
 use Rattle.carried_volumes.specs.Carried.{Carried}
 use Rattle.front_core.specs.Fronts.{Fronted, sizes_of, seals_of, next_entry, next_history}
 use Rattle.ccfs_top.specs.Runs.{further}
-use Rattle.ccfs_top.specs.Stages.{Room, room_in, have_room, used_by_all, sizes_from, all_sizes, is_sync_form}
+use Rattle.ccfs_top.specs.Stages.{is_sync_form}
 
 -- the tree of the cut after so many seals of a front
 abbrev pub cut_tree : Fronted → ℕ → Rows
@@ -30,11 +29,6 @@ pub record Settled (geometry : Geometry) (bytes at_hand : List ℕ) (front : Fro
   pub copied : at_hand ≡ metadata (volume_of geometry bytes)
   pub number : volumes.number (volume_of geometry bytes) ≡ further first written
   pub few : written ≤ seals_of front
-
--- the half has used up what the batches that were written took, of a room at the opening, and each had room
-pub record HasUsed (room : Room) (front : Fronted) (written : ℕ) (half : Half) : Type 0 where
-  pub used : room_in (journal_of half) ≡ used_by_all room (sizes_from front.sizes front.opening front.entries 0 written)
-  pub fitted : have_room room (sizes_from front.sizes front.opening front.entries 0 written) ≡ true
 
 -- a volume, by what is known of it, shows this number and this picture
 abbrev pub Shows : Geometry → Half → List ℕ → ℕ → List Item → Type 0
@@ -50,10 +44,6 @@ pub record ShowsOneOf (front : Fronted) (first least most : ℕ) (c : List ℕ) 
   pub enough : least ≤ cut
   pub few : cut ≤ most
   pub shows : ShowsCut front first cut c
-
--- whether all batches of a front's history have room, of a room at the opening
-abbrev pub all_fit : Room → Fronted → Bool
-all_fit room front = have_room room (all_sizes front.sizes front.opening front.entries)
 
 -- how many batches are written once a call was made: all that are sealed, where it is a sync form
 abbrev pub written_by : Fronted → ℕ → Command → ℕ

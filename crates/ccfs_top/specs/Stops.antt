@@ -1,5 +1,5 @@
 -- Why a run stops before its end: what it says then, and what was written until then.
-use Rattle.std.specs.Prelude.{◌≡◌, ◌⊎◌, ℕ, List, [], ◌++◌, length, take}
+use Rattle.std.specs.Prelude.{◌≡◌, ◌⊎◌, ℕ, List, [], ◌++◌, take}
 use Rattle.script_text.specs.Texts.{usage_line, too_long_line, bad_image_line, bad_line_line, not_built_line, script_fault_line, disk_fault_line, memory_fault_line}
 use Rattle.ccfs_top.specs.declared.stop.Stop.{Stop}
 use Rattle.ccfs_top.specs.declared.stop.Stop.TheVariants.{Usage, Long, BadLine, NotBuilt, Source, Sink, Disk, BadImage, NoMemory}
@@ -60,20 +60,14 @@ Told stop code = (code ≡ status_of stop) ⊎ ((code ≡ 9) × TakesMemory stop
 abbrev pub SaidOf : Type 0 → Stop → ℕ → List ℕ → Type 0
 SaidOf sink_failed stop code said = ((code ≡ status_of stop) × IsSaid sink_failed (stop_line stop) said) ⊎ ((code ≡ 9) × TakesMemory stop × IsSaid sink_failed memory_fault_line said)
 
--- what is to come has this stop in it: its status and its last line
-pub record Comes (e : Expected) (code : ℕ) (line : List ℕ) : Type 0 where
-  pub status : e.status ≡ code
-  pub last : e.last ≡ line
-  pub batches : e.batches ≡ 0
-
--- a stop that what is to come decides, and no fault
+-- a stop that what is to come decides, and no fault. The sink can fail only where the end is to be status 0: it gets no line before
 abbrev pub Decides : Expected → Stop → Type 0
 Decides e Usage = e ≡ alone 2 usage_line
 Decides e Long = e ≡ alone 4 too_long_line
 Decides e (BadLine line) = e ≡ alone 3 (bad_line_line line)
-Decides e (NotBuilt line) = Comes e 1 (not_built_line line)
+Decides e (NotBuilt line) = e ≡ alone 1 (not_built_line line)
 Decides e Source = Unit {0}
-Decides e Sink = Unit {0}
+Decides e Sink = e.status ≡ 0
 Decides e Disk = Unit {0}
 Decides e (BadImage bad) = e ≡ alone 8 (bad_image_line (kind_name bad.kind) bad.block)
 Decides e NoMemory = Unit {0}
@@ -88,13 +82,13 @@ pub record Cut (e : Expected) (lines : ℕ) (written : List ℕ) : Type 0 where
   pub text : written ≡ joined (take lines e.replies) ++ said
   pub part : IsPart said (line_behind e lines)
 
--- what was written until a stop, with so many whole reply lines: nothing before there were replies, all of them before a
--- call that isn't built, some of them before a fault, and a part of the rest behind them where the sink failed
+-- what was written until a stop, with so many whole reply lines: nothing before there were replies, some of them before a fault,
+-- and a part of the rest behind them where the sink failed
 abbrev pub Until : Expected → Stop → ℕ → List ℕ → Type 0
 Until e Usage lines written = written ≡ []
 Until e Long lines written = written ≡ []
 Until e (BadLine line) lines written = written ≡ []
-Until e (NotBuilt line) lines written = (lines ≡ length e.replies) × (written ≡ joined e.replies)
+Until e (NotBuilt line) lines written = written ≡ []
 Until e Source lines written = (lines ≡ 0) × (written ≡ [])
 Until e Sink lines written = Cut e lines written
 Until e Disk lines written = SomeLines e lines written
@@ -116,3 +110,15 @@ IsFaultStop Sink = Unit {0}
 IsFaultStop Disk = Unit {0}
 IsFaultStop (BadImage bad) = ⊥
 IsFaultStop NoMemory = Unit {0}
+
+-- what may stop a run once its script is known to be right: the sink, the disk, an image that holds no tree, or want of memory
+abbrev pub IsLate : Stop → Type 0
+IsLate Usage = ⊥
+IsLate Long = ⊥
+IsLate (BadLine line) = ⊥
+IsLate (NotBuilt line) = ⊥
+IsLate Source = ⊥
+IsLate Sink = Unit {0}
+IsLate Disk = Unit {0}
+IsLate (BadImage bad) = Unit {0}
+IsLate NoMemory = Unit {0}

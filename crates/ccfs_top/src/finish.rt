@@ -1,12 +1,12 @@
 //! A run over a disk, from its opening to the tree text.
-ghost use Rattle.std.specs.Prelude.{◌≡◌, ◌⊎◌, ◌<◌, ◌≤◌, ◌++◌, ℕ, List, true, false, Some, IfOk, IfErr, OnOk, OnErr, IsErrOf, length};
+ghost use Rattle.std.specs.Prelude.{◌≡◌, ◌⊎◌, ◌<◌, ◌≤◌, ◌++◌, ℕ, List, true, false, None, Some, IfOk, IfErr, OnOk, OnErr, IsErrOf, length};
 ghost use Rattle.fault_counts.specs.Counts.{Rose};
 ghost use Rattle.tree_model.specs.declared.picturing.Item.{Item};
 ghost use Rattle.tree_model.specs.Picture.{picture};
+ghost use Rattle.script_text.specs.Scripts.{first_unbuilt};
 ghost use Rattle.script_text.specs.Trees.{tree_lines};
 ghost use Rattle.gate_journal.specs.Halves.{journal_of};
 ghost use Rattle.gate_journal.specs.Runs.{Quiet};
-ghost use Rattle.atomic_volume.specs.Opening.{is_unbuilt};
 ghost use Rattle.recovery.specs.Bad.{Says};
 ghost use Rattle.std.specs.List.{All};
 ghost use Rattle.ccfs_base.specs.Fits.{fits_command};
@@ -14,13 +14,11 @@ ghost use Rattle.image_model.specs.Checks.{is_last};
 ghost use Rattle.recovery.specs.Recovering.{shown_for_now};
 ghost use Rattle.recovery.specs.declared.fault.OpenFault.TheVariants as open_fault;
 ghost use Rattle.ccfs_top.specs.Ends.{IsPart, joined};
-ghost use Rattle.ccfs_top.specs.Found.{IsFound};
-ghost use Rattle.ccfs_top.specs.Images.{Image, IsImage, Finding, Finds, Holds};
-ghost use Rattle.ccfs_top.specs.Left.{Kept, Halts, Done};
+ghost use Rattle.ccfs_top.specs.Left.{Kept, Halts, Done, DoneOn, HaltsOn};
 ghost use Rattle.front_core.specs.Fronts.{new_front};
 ghost use Rattle.ccfs_top.specs.Runs.{image_by, ran, over};
 ghost use Rattle.ccfs_top.specs.Sessions.{Settled};
-ghost use Rattle.ccfs_top.specs.Stops.{IsFaultStop};
+ghost use Rattle.ccfs_top.specs.Stops.{IsFaultStop, IsLate};
 
 use crate::open::open;
 use crate::run::perform_all;
@@ -72,12 +70,12 @@ fn write_shown<D: Disk, K: Sink>(alloc: Global, disk: &mut D, out: &mut K) -> Re
         → (said : List ℕ) × (K.held out.new ≡ K.held out.old ++ said) × IsPart said (tree_lines number p) }
     ensures sink_cause { IsErrOf result Stop.Sink → Rose (K.faults out.old) (K.faults out.new) }
     ensures unwritten { K.tells → (IsErrOf result Stop.Sink → ⊥) → OnErr result (K.held out.new ≡ K.held out.old) }
-    ensures fault { D.tells → D.in_doubt disk.old ≡ false → is_unbuilt (D.seen disk.old) ≡ false → (number : ℕ) (p : List Item) → shown_for_now (D.seen disk.old) ≡ Some (number, p) → IfErr result (λ stop. IsFaultStop stop) }
+    ensures fault { D.tells → D.in_doubt disk.old ≡ false → (number : ℕ) (p : List Item) → shown_for_now (D.seen disk.old) ≡ Some (number, p) → IfErr result (λ stop. IsFaultStop stop) }
     ensures quiet { D.tells → Quiet D.Disk disk.old disk.new }
     ensures later { D.faults disk.old ≤ D.faults disk.new }
     ensures sink_later { K.faults out.old ≤ K.faults out.new }
     ensures device { IsErrOf result Stop.Disk → Rose (D.faults disk.old) (D.faults disk.new) }
-    ensures kinds { (IsErrOf result Stop.Usage → ⊥) × (IsErrOf result Stop.Long → ⊥) × (IsErrOf result Stop.Source → ⊥) }
+    ensures late { IfErr result (λ stop. IsLate stop) }
 {
     let viewed = match view(alloc, disk) {
         Ok(viewed) => viewed,
@@ -102,15 +100,16 @@ fn run_session<D: Disk, K: Sink>(
     requires actors { All (λ call. call.actor < 64) calls.now }
     requires fits { All (λ call. fits_command call.command ≡ true) calls.now }
     requires few { length calls.now ≤ 65536 }
+    requires built { first_unbuilt calls.now ≡ None }
     requires new { session.front ≡ new_front session.volume.geometry 1048576 session.front.opening session.front.inodes }
     requires none_written { session.written ≡ 0 }
     requires settled { Settled session.volume.geometry session.volume.volume.items session.metadata session.front session.first session.written }
     requires working { session.volume.failed ≡ false }
     requires last { is_last (journal_of session.volume.half).last session.first ≡ true }
-    ensures done { D.tells → IfOk result (λ done. Done D.Disk session.volume.disk done.disk calls.now (image_by session.first session.front.opening session.volume.geometry session.volume.half) done.batches K.tells (K.held out.old) (K.held out.new)) }
-    ensures halts { D.tells → IfErr result (λ refused. Halts D.Disk session.volume.disk refused.kept calls.now (Holds (image_by session.first session.front.opening session.volume.geometry session.volume.half)) (ran (image_by session.first session.front.opening session.volume.geometry session.volume.half) calls.now) refused.fault K.tells (K.held out.old) (K.held out.new)) }
+    ensures done { D.tells → IfOk result (λ done. Done D.Disk session.volume.disk done.disk calls.now (image_by session.first session.front) done.batches K.tells (K.held out.old) (K.held out.new)) }
+    ensures halts { D.tells → IfErr result (λ refused. Halts (ran (image_by session.first session.front) calls.now) refused.fault (Kept D.Disk session.volume.disk refused.kept (image_by session.first session.front) calls.now) K.tells (K.held out.old) (K.held out.new)) }
     ensures sink_cause { IfErr result (λ refused. refused.fault ≡ Stop.Sink → Rose (K.faults out.old) (K.faults out.new)) }
-    ensures kinds { IfErr result (λ refused. (refused.fault ≡ Stop.Usage → ⊥) × (refused.fault ≡ Stop.Long → ⊥) × (refused.fault ≡ Stop.Source → ⊥)) }
+    ensures late { IfErr result (λ refused. IsLate refused.fault) }
     ensures sink_later { K.faults out.old ≤ K.faults out.new }
     ensures device { IfErr result (λ refused. refused.fault ≡ Stop.Disk → Rose (D.faults session.volume.disk) (D.faults refused.kept)) }
 {
@@ -141,12 +140,11 @@ pub fn run_disk<D: Disk, K: Sink>(
     requires actors { All (λ call. call.actor < 64) calls.now }
     requires fits { All (λ call. fits_command call.command ≡ true) calls.now }
     requires few { length calls.now ≤ 65536 }
-    ensures done { D.tells → IfOk result (λ done. (found : List ℕ) × IsFound (D.may_leave disk) (D.in_doubt disk) (D.seen disk) found
-        × ((image : Image) × IsImage image found × Done D.Disk disk done.disk calls.now image done.batches K.tells (K.held out.old) (K.held out.new))) }
-    ensures halts { D.tells → IfErr result (λ refused. (found : List ℕ) × IsFound (D.may_leave disk) (D.in_doubt disk) (D.seen disk) found
-        × ((seen : Finding Image) × Finds IsImage found seen × Halts D.Disk disk refused.kept calls.now seen (over (λ image. ran image calls.now) seen) refused.fault K.tells (K.held out.old) (K.held out.new))) }
+    requires built { first_unbuilt calls.now ≡ None }
+    ensures done { D.tells → IfOk result (λ done. DoneOn D.Disk disk done.disk calls.now done.batches K.tells (K.held out.old) (K.held out.new)) }
+    ensures halts { D.tells → IfErr result (λ refused. HaltsOn D.Disk disk refused.kept calls.now (over (λ image. ran image calls.now)) refused.fault K.tells (K.held out.old) (K.held out.new)) }
     ensures sink_cause { IfErr result (λ refused. refused.fault ≡ Stop.Sink → Rose (K.faults out.old) (K.faults out.new)) }
-    ensures kinds { IfErr result (λ refused. (refused.fault ≡ Stop.Usage → ⊥) × (refused.fault ≡ Stop.Long → ⊥) × (refused.fault ≡ Stop.Source → ⊥)) }
+    ensures late { IfErr result (λ refused. IsLate refused.fault) }
     ensures sink_later { K.faults out.old ≤ K.faults out.new }
     ensures device { IfErr result (λ refused. refused.fault ≡ Stop.Disk → Rose (D.faults disk) (D.faults refused.kept)) }
 {

@@ -22,12 +22,3 @@ mod words;
 
 pub use ended::Ended;
 pub use top::shell;
-
-#[cfg(test)]
-mod crash_tests;
-#[cfg(test)]
-mod stream_tests;
-#[cfg(test)]
-mod tests;
-#[cfg(test)]
-mod trials;

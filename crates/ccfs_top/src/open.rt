@@ -1,9 +1,11 @@
 //! A disk is opened.
-ghost use Rattle.std.specs.Prelude.{◌≡◌, ◌≤◌, ℕ, List, length, false, true, IfOk, IfErr, MatchResult};
+ghost use Rattle.std.specs.Prelude.{◌≡◌, ◌≤◌, ◌<◌, ◌^◌, ℕ, Some, List, length, false, true, IfOk, IfErr, MatchResult};
 ghost use Rattle.fault_counts.specs.Counts.{Rose};
 ghost use Rattle.gate_journal.specs.Halves.{journal_of};
-ghost use Rattle.gate_journal.specs.Runs.{Quiet};
-ghost use Rattle.recovery.specs.Opens.{IsRefused};
+ghost use Rattle.recovery.specs.Opens.{Finds};
+ghost use Rattle.recovery.specs.Recovering.{recovered_for_now};
+ghost use Rattle.atomic_volume.specs.Held.{contents_by};
+ghost use Rattle.ccfs_top.specs.Left.{IsShut};
 ghost use Rattle.recovery.specs.declared.fault.OpenFault.TheVariants as open_fault;
 ghost use Rattle.ccfs_top.specs.Found.{IsFound};
 ghost use Rattle.ccfs_top.specs.Images.{IsImage};
@@ -34,14 +36,16 @@ const LIMIT: u32 = 1_048_576;
 /// comes back where that fails.
 pub fn open<D: Disk>(alloc: Global, disk: D) -> Result<Session<D>, Returned<OpenFault, D>>
     ensures opened { D.tells → IfOk result (λ s. (found : List ℕ) × IsFound (D.may_leave disk) (D.in_doubt disk) (D.seen disk) found
-        × IsImage (image_by s.first s.front.opening s.volume.geometry s.volume.half) found) }
+        × IsImage (image_by s.first s.front) found) }
     ensures new { IfOk result (λ s. s.front ≡ new_front s.volume.geometry 1048576 s.front.opening s.front.inodes) }
     ensures none_written { IfOk result (λ s. s.written ≡ 0) }
     ensures settled { IfOk result (λ s. Settled s.volume.geometry s.volume.volume.items s.metadata s.front s.first s.written) }
     ensures working { IfOk result (λ s. s.volume.failed ≡ false) }
     ensures last { IfOk result (λ s. is_last (journal_of s.volume.half).last s.first ≡ true) }
-    ensures refuses { D.tells → IfErr result (λ refused. IsRefused D.Disk disk refused.fault) }
-    ensures quiet { D.tells → MatchResult result (λ s. Quiet D.Disk disk s.volume.disk) (λ refused. Quiet D.Disk disk refused.kept) }
+    ensures way { D.tells → IfOk result (λ s. Finds D.Disk disk s.volume.disk (contents_by s.volume.geometry s.volume.half s.volume.volume.items) (s.first, s.front.opening)) }
+    ensures each { D.tells → IfOk result (λ s. (c : List ℕ) → D.may_leave s.volume.disk c → recovered_for_now c ≡ Some (s.first, s.front.opening)) }
+    ensures small { IfOk result (λ s. s.first < 2 ^ 64) }
+    ensures shut { D.tells → IfErr result (λ refused. IsShut D.Disk disk refused.kept refused.fault) }
     ensures later { MatchResult result (λ s. D.faults disk ≤ D.faults s.volume.disk) (λ refused. D.faults disk ≤ D.faults refused.kept) }
     ensures device { IfErr result (λ refused. refused.fault ≡ open_fault.Device → Rose (D.faults disk) (D.faults refused.kept)) }
 {

@@ -6,7 +6,7 @@ ghost use Rattle.tree_model.specs.Rows.{Rows};
 ghost use Rattle.ccfs_top.specs.Ends.{joined};
 ghost use Rattle.ccfs_top.specs.Images.{Finding, Holds, Finds, RecoversTo};
 ghost use Rattle.ccfs_top.specs.Runs.{over, printed};
-ghost use Rattle.ccfs_top.specs.Stops.{Decides, Grew};
+ghost use Rattle.ccfs_top.specs.Stops.{Decides, Grew, IsLate};
 
 use crate::finish::write_tree;
 use crate::stop::{Stop, stop_of_open};
@@ -21,7 +21,7 @@ pub fn print_tree<D: Disk, K: Sink>(alloc: Global, disk: &mut D, out: &mut K) ->
     ensures halts { D.tells → D.in_doubt disk.old ≡ false → IfErr result (λ stop. (seen : Finding (ℕ × Rows)) × Finds RecoversTo (D.seen disk.old) seen × Decides (over printed seen) stop × (K.tells → Grew (over printed seen) stop 0 (K.held out.old) (K.held out.new))) }
     ensures quiet { D.tells → Quiet D.Disk disk.old disk.new }
     ensures count { D.written disk.new ≡ D.written disk.old }
-    ensures kinds { (IsErrOf result Stop.Usage → ⊥) × (IsErrOf result Stop.Long → ⊥) × (IsErrOf result Stop.Source → ⊥) × ((line : ℕ) → IsErrOf result (Stop.BadLine line) → ⊥) × ((line : ℕ) → IsErrOf result (Stop.NotBuilt line) → ⊥) }
+    ensures late { IfErr result (λ stop. IsLate stop) }
     ensures sink_cause { IsErrOf result Stop.Sink → Rose (K.faults out.old) (K.faults out.new) }
     ensures sink_later { K.faults out.old ≤ K.faults out.new }
     ensures device { IsErrOf result Stop.Disk → Rose (D.faults disk.old) (D.faults disk.new) }

@@ -1,22 +1,18 @@
 //! The calls of a script, one after another.
 ghost use Rattle.std.specs.Prelude.{◌≡◌, ◌≢◌, ◌⊎◌, ◌≤◌, ◌<◌, ◌+◌, ◌-◌, ◌^◌, ◌++◌, ℕ, List, [], true, false, IsTrue, length, take, OnOk, OnErr, IfOk, IfErr, IsErrOf, None, Some};
 ghost use Rattle.fault_counts.specs.Counts.{Rose};
-ghost use Rattle.tree_model.specs.declared.picturing.Item.{Item};
 ghost use Rattle.tree_model.specs.Picture.{picture};
-ghost use Rattle.history_model.specs.State.{Now};
-ghost use Rattle.history_model.specs.Histories.{start, durable, tree_at};
+ghost use Rattle.script_text.specs.Scripts.{first_unbuilt};
 ghost use Rattle.script_text.specs.Texts.{reply_line};
 ghost use Rattle.gate_journal.specs.Halves.{journal_of};
-ghost use Rattle.gate_journal.specs.Runs.{LeavesBy};
 ghost use Rattle.std.specs.List.{All};
 ghost use Rattle.ccfs_base.specs.Fits.{fits_command};
 ghost use Rattle.image_model.specs.Checks.{is_last};
 ghost use Rattle.ccfs_top.specs.Ends.{IsPart, joined};
-ghost use Rattle.ccfs_top.specs.Images.{Holds};
 ghost use Rattle.ccfs_top.specs.Left.{Kept, Halts};
-ghost use Rattle.ccfs_top.specs.Runs.{further, image_by, final_history, replies, stopped_over, ran};
+ghost use Rattle.ccfs_top.specs.Runs.{image_by, replies, final_number, final_tree, ran};
 ghost use Rattle.ccfs_top.specs.Sessions.{Settled, Shows};
-ghost use Rattle.front_core.specs.Fronts.{new_front, sizes_of};
+ghost use Rattle.front_core.specs.Fronts.{new_front};
 ghost use Rattle.ccfs_top.specs.Stops.{IsFaultStop};
 
 use crate::session::{Session, StepFault};
@@ -26,16 +22,16 @@ use disk_model::Disk;
 use script_text::{Call, reply_text};
 use std::alloc::Global;
 
-/// Why a run stops at a call of this line that isn't performed.
-fn stop_of_step(fault: StepFault, line: u32) -> Stop
-    ensures device { (fault ≡ StepFault.Device → result ≡ Stop.Disk) × (result ≡ Stop.Disk → fault ≡ StepFault.Device) }
-    ensures not_built { (at : ℕ) → result ≡ Stop.NotBuilt at → (at ≡ line) × (fault ≡ StepFault.NotBuilt) }
-    ensures kinds { (result ≡ Stop.Disk) ⊎ (result ≡ Stop.NoMemory) ⊎ (result ≡ Stop.NotBuilt line) }
+/// Why a run stops at a call that isn't performed, though it is built.
+fn stop_of_step(fault: StepFault) -> Stop
+    requires built { fault ≡ StepFault.NotBuilt → ⊥ }
+    ensures device { result ≡ Stop.Disk → fault ≡ StepFault.Device }
+    ensures kinds { (result ≡ Stop.Disk) ⊎ (result ≡ Stop.NoMemory) }
 {
     match fault {
         StepFault::Device => Stop::Disk,
         StepFault::NoMemory => Stop::NoMemory,
-        StepFault::NotBuilt => Stop::NotBuilt { line },
+        StepFault::NotBuilt => unreachable!(),
     }
 }
 
@@ -68,20 +64,19 @@ pub fn perform_all<D: Disk, K: Sink>(
     requires actors { All (λ call. call.actor < 64) calls.now }
     requires fits { All (λ call. fits_command call.command ≡ true) calls.now }
     requires few { length calls.now ≤ 65536 }
+    requires built { first_unbuilt calls.now ≡ None }
     requires new { session.old.front ≡ new_front session.old.volume.geometry 1048576 session.old.front.opening session.old.front.inodes }
     requires none_written { session.old.written ≡ 0 }
     requires settled { Settled session.old.volume.geometry session.old.volume.volume.items session.old.metadata session.old.front session.old.first session.old.written }
     requires working { session.old.volume.failed ≡ false }
     requires last { is_last (journal_of session.old.volume.half).last session.old.first ≡ true }
-    ensures done { OnOk result (stopped_over (image_by session.old.first session.old.front.opening session.old.volume.geometry session.old.volume.half) calls.now ≡ None) }
-    ensures text { K.tells → OnOk result (K.held out.new ≡ K.held out.old ++ joined (replies (image_by session.old.first session.old.front.opening session.old.volume.geometry session.old.volume.half) calls.now)) }
+    ensures text { K.tells → OnOk result (K.held out.new ≡ K.held out.old ++ joined (replies (image_by session.old.first session.old.front) calls.now)) }
     ensures shows { OnOk result (Shows session.new.volume.geometry session.new.volume.half session.new.volume.volume.items
-        (further session.old.first (durable (final_history (image_by session.old.first session.old.front.opening session.old.volume.geometry session.old.volume.half) calls.now)))
-        (picture (tree_at (sizes_of session.old.volume.geometry) (start session.old.front.opening) (final_history (image_by session.old.first session.old.front.opening session.old.volume.geometry session.old.volume.half) calls.now) (durable (final_history (image_by session.old.first session.old.front.opening session.old.volume.geometry session.old.volume.half) calls.now))))) }
+        (final_number (image_by session.old.first session.old.front) calls.now) (picture (final_tree (image_by session.old.first session.old.front) calls.now))) }
     ensures working { OnOk result (session.new.volume.failed ≡ false) }
-    ensures kept { D.tells → OnOk result (Kept D.Disk session.old.volume.disk session.new.volume.disk (image_by session.old.first session.old.front.opening session.old.volume.geometry session.old.volume.half) calls.now (length (replies (image_by session.old.first session.old.front.opening session.old.volume.geometry session.old.volume.half) calls.now))) }
-    ensures halts { D.tells → IfErr result (λ stop. Halts D.Disk session.old.volume.disk session.new.volume.disk calls.now (Holds (image_by session.old.first session.old.front.opening session.old.volume.geometry session.old.volume.half)) (ran (image_by session.old.first session.old.front.opening session.old.volume.geometry session.old.volume.half) calls.now) stop K.tells (K.held out.old) (K.held out.new)) }
-    ensures kinds { IfErr result (λ stop. IsFaultStop stop ⊎ ((line : ℕ) × (stop ≡ Stop.NotBuilt line))) }
+    ensures kept { D.tells → OnOk result (Kept D.Disk session.old.volume.disk session.new.volume.disk (image_by session.old.first session.old.front) calls.now (length (replies (image_by session.old.first session.old.front) calls.now))) }
+    ensures halts { D.tells → IfErr result (λ stop. Halts (ran (image_by session.old.first session.old.front) calls.now) stop (Kept D.Disk session.old.volume.disk session.new.volume.disk (image_by session.old.first session.old.front) calls.now) K.tells (K.held out.old) (K.held out.new)) }
+    ensures fault { IfErr result (λ stop. IsFaultStop stop) }
     ensures later { D.faults session.old.volume.disk ≤ D.faults session.new.volume.disk }
     ensures sink_later { K.faults out.old ≤ K.faults out.new }
     ensures sink_cause { IsErrOf result Stop.Sink → Rose (K.faults out.old) (K.faults out.new) }
@@ -90,7 +85,7 @@ pub fn perform_all<D: Disk, K: Sink>(
     for call in calls {
         let reply = match session.step(alloc, call.actor, &call.command) {
             Ok(reply) => reply,
-            Err(fault) => return Err(stop_of_step(fault, call.line)),
+            Err(fault) => return Err(stop_of_step(fault)),
         };
         match write_reply(alloc, call.actor, &reply, out) {
             Ok(()) => {}

@@ -4,6 +4,7 @@ ghost use Rattle.std.specs.List.{All};
 ghost use Rattle.ccfs_base.specs.Fits.{fits_command};
 ghost use Rattle.fault_counts.specs.Counts.{Rose};
 ghost use Rattle.script_text.specs.Scripts.{calls_of, first_unbuilt, is_long, IsFirstUnbuilt};
+ghost use Rattle.ccfs_top.specs.Runs.{IsReady};
 
 use ccfs_base::Source;
 use script_text::{Call, MOST_BYTES, ScriptFault, parse_script};
@@ -58,7 +59,8 @@ fn read_script<S: Source>(alloc: Global, script: &mut S) -> Result<Vec<u8>, Scri
 
 /// The calls of the script that the source gives.
 pub fn read_calls<S: Source>(alloc: Global, script: &mut S) -> Result<Vec<Call>, ScriptEnd>
-    ensures ok { S.tells → IfOk result (λ calls. (is_long (S.left script.old) ≡ false) × (calls_of (S.left script.old) ≡ Ok calls.items) × (first_unbuilt calls.items ≡ None)) }
+    ensures ok { S.tells → IfOk result (λ calls. IsReady (S.left script.old) calls.items) }
+    ensures built { IfOk result (λ calls. first_unbuilt calls.items ≡ None) }
     ensures actors { IfOk result (λ calls. All (λ call. call.actor < 64) calls.items) }
     ensures fits { IfOk result (λ calls. All (λ call. fits_command call.command ≡ true) calls.items) }
     ensures few { IfOk result (λ calls. length calls.items ≤ 65536) }

@@ -1,17 +1,19 @@
 //! A file system in use: its front, and the volume that holds what is durable.
-ghost use Rattle.std.specs.Prelude.{◌≡◌, ◌≤◌, ◌<◌, ◌+◌, true, false, IsTrue, IfOk, OnOk, IsErrOf, length};
+ghost use Rattle.std.specs.Prelude.{◌≡◌, ◌≤◌, ◌<◌, ◌+◌, true, false, IsTrue, IfOk, OnOk, OnErr, IfErr, IsErrOf, length};
 ghost use Rattle.fault_counts.specs.Counts.{Rose};
 ghost use Rattle.ccfs_base.specs.Fits.{fits_command};
-ghost use Rattle.stream_cuts.specs.Cuts.{batch};
-ghost use Rattle.history_model.specs.Histories.{start, charged_in};
-ghost use Rattle.gate_journal.specs.Halves.{journal_of};
+ghost use Rattle.gate_journal.specs.Batches.{batch_bytes};
+ghost use Rattle.gate_journal.specs.Halves.{size_of, journal_of, MayFollow};
 ghost use Rattle.gate_journal.specs.Runs.{LeavesBy};
+ghost use Rattle.atomic_volume.specs.Homing.{IsMoved};
 ghost use Rattle.image_model.specs.Checks.{is_last};
 ghost use Rattle.front_laws.specs.Batches.{batch_at};
+ghost use Rattle.front_laws.specs.Kept.{is_answered};
 ghost use Rattle.front_core.specs.Fronts.{next_history, seals_of};
 ghost use Rattle.ccfs_top.specs.Runs.{further};
-ghost use Rattle.ccfs_top.specs.Stages.{Room, room_in, has_room, used_by, batch_bytes, is_blocked, is_sync_form};
-ghost use Rattle.ccfs_top.specs.Sessions.{Settled, HasUsed, ShowsOneOf, IsStepped, all_fit};
+ghost use Rattle.ccfs_top.specs.Stages.{is_sync_form};
+ghost use Rattle.ccfs_top.specs.Taken.{next_batch, journal_for, HasOneMore, room_in, taken_by, size_at, HasTaken};
+ghost use Rattle.ccfs_top.specs.Sessions.{Settled, ShowsOneOf, IsStepped};
 
 use atomic_volume::{Volume, VolumeFault};
 use batch_ranges::Metadata;
@@ -19,6 +21,7 @@ use ccfs_base::{Command, Reply};
 use disk_model::Disk;
 use file_bodies::Sealed;
 use front_core::{ActFault, Front};
+use gate_journal::Batch;
 use std::alloc::Global;
 
 /// Why a call wasn't performed.
@@ -56,8 +59,32 @@ fn is_sync_form(command: &Command) -> bool
     )
 }
 
+/// Makes room for a batch: where it doesn't fit the half in use, a checkpoint moves what is in it home, and the other half takes the batch.
+/// Where it fits, nothing is done. `Device` is the only fault, and comes only where the disk's faults rose.
+fn make_room<D: Disk>(volume: &mut Volume<D>, batch: &Batch) -> Result<(), StepFault>
+    requires working { volume.old.failed ≡ false }
+    requires follows { MayFollow (size_of volume.old.half) (journal_of volume.old.half) batch.now }
+    ensures geometry { volume.new.geometry ≡ volume.old.geometry }
+    ensures bytes { volume.new.volume.items ≡ volume.old.volume.items }
+    ensures journal { OnOk result (journal_of volume.new.half ≡ journal_for (journal_of volume.old.half) (length (batch_bytes batch.now))) }
+    ensures working { OnOk result (volume.new.failed ≡ false) }
+    ensures any_moment { D.tells → LeavesBy D.Disk volume.old.disk volume.new.disk (IsMoved (D.may_leave volume.old.disk)) }
+    ensures later { D.faults volume.old.disk ≤ D.faults volume.new.disk }
+    ensures device { IfErr result (λ fault. fault ≡ StepFault.Device) }
+    ensures rose { OnErr result (Rose (D.faults volume.old.disk) (D.faults volume.new.disk)) }
+{
+    if volume.accepts(batch) {
+        return Ok(());
+    }
+    match volume.checkpoint() {
+        Ok(()) => Ok(()),
+        Err(_) => Err(StepFault::Device),
+    }
+}
+
 impl<D: Disk> Session<D> {
-    /// Writes the batch that takes the volume to its next cut. Where that fails, nothing may be written any more.
+    /// Writes the batch that takes the volume to its next cut, where it doesn't fit the journal behind a checkpoint. Which of both it is, is
+    /// decided before anything is written. Where that fails, nothing may be written any more.
     fn commit(&mut self, alloc: Global, sealed: &Sealed) -> Result<(), StepFault>
         requires settled { Settled self.old.volume.geometry self.old.volume.volume.items self.old.metadata self.old.front self.old.first self.old.written }
         requires next { sealed.now ≡ batch_at self.old.front.sizes self.old.front.opening self.old.front.inodes self.old.front.entries self.old.written }
@@ -68,24 +95,22 @@ impl<D: Disk> Session<D> {
         ensures first { self.new.first ≡ self.old.first }
         ensures written { OnOk result (self.new.written ≡ self.old.written + 1) }
         ensures settled { OnOk result (Settled self.new.volume.geometry self.new.volume.volume.items self.new.metadata self.new.front self.new.first self.new.written) }
-        ensures accepted { OnOk result (has_room (room_in (journal_of self.old.volume.half)) (batch_bytes (batch (charged_in self.old.front.sizes (start self.old.front.opening) self.old.front.entries) self.old.written)) ≡ true) }
-        ensures blocked { IsErrOf result StepFault.NotBuilt → has_room (room_in (journal_of self.old.volume.half)) (batch_bytes (batch (charged_in self.old.front.sizes (start self.old.front.opening) self.old.front.entries) self.old.written)) ≡ false }
-        ensures room { OnOk result (room_in (journal_of self.new.volume.half) ≡ used_by (room_in (journal_of self.old.volume.half)) (batch_bytes (batch (charged_in self.old.front.sizes (start self.old.front.opening) self.old.front.entries) self.old.written))) }
+        ensures journal { OnOk result (HasOneMore self.old.volume.half (next_batch self.old.metadata self.old.front self.old.first self.old.written) self.new.volume.half) }
+        ensures taken { OnOk result (room_in (journal_of self.new.volume.half) ≡ taken_by (room_in (journal_of self.old.volume.half)) (size_at self.old.front self.old.written)) }
         ensures last { OnOk result (is_last (journal_of self.new.volume.half).last (further self.new.first self.new.written) ≡ true) }
         ensures working { OnOk result (self.new.volume.failed ≡ false) }
         ensures geometry { self.new.volume.geometry ≡ self.old.volume.geometry }
         ensures moments { D.tells → LeavesBy D.Disk self.old.volume.disk self.new.volume.disk (ShowsOneOf self.old.front self.old.first self.old.written (self.old.written + 1)) }
         ensures later { D.faults self.old.volume.disk ≤ D.faults self.new.volume.disk }
         ensures device { IsErrOf result StepFault.Device → Rose (D.faults self.old.volume.disk) (D.faults self.new.volume.disk) }
+        ensures built { IsErrOf result StepFault.NotBuilt → ⊥ }
     {
         self.front.is_kept();
         let number = self.first.wrapping_add(self.written).wrapping_add(1);
         let Ok(batch) = self.metadata.batch(alloc, number, &sealed.recs) else {
             return Err(StepFault::NoMemory);
         };
-        if !self.volume.accepts(&batch) {
-            return Err(StepFault::NotBuilt);
-        }
+        make_room(&mut self.volume, &batch)?;
         match self.volume.commit(&batch) {
             Ok(()) => {
                 self.written += 1;
@@ -107,13 +132,13 @@ impl<D: Disk> Session<D> {
         ensures geometry { self.new.volume.geometry ≡ self.old.volume.geometry }
         ensures written { OnOk result (self.new.written ≡ seals_of self.old.front) }
         ensures settled { OnOk result (Settled self.new.volume.geometry self.new.volume.volume.items self.new.metadata self.new.front self.new.first self.new.written) }
-        ensures used { (room : Room) → HasUsed room self.old.front self.old.written self.old.volume.half → OnOk result (HasUsed room self.new.front self.new.written self.new.volume.half) }
-        ensures blocked { (room : Room) → HasUsed room self.old.front self.old.written self.old.volume.half → IsErrOf result StepFault.NotBuilt → all_fit room self.old.front ≡ false }
+        ensures journal { OnOk result (HasTaken self.new.front self.old.written self.new.written self.old.volume.half self.new.volume.half) }
         ensures last { OnOk result (is_last (journal_of self.new.volume.half).last (further self.new.first self.new.written) ≡ true) }
         ensures working { OnOk result (self.new.volume.failed ≡ false) }
         ensures moments { D.tells → LeavesBy D.Disk self.old.volume.disk self.new.volume.disk (ShowsOneOf self.old.front self.old.first self.old.written (seals_of self.old.front)) }
         ensures later { D.faults self.old.volume.disk ≤ D.faults self.new.volume.disk }
         ensures device { IsErrOf result StepFault.Device → Rose (D.faults self.old.volume.disk) (D.faults self.new.volume.disk) }
+        ensures built { IsErrOf result StepFault.NotBuilt → ⊥ }
     {
         let sealed = self.front.take_sealed();
         for batch in &sealed {
@@ -125,8 +150,9 @@ impl<D: Disk> Session<D> {
     /// Performs a command of an actor, and answers its reply.
     ///
     /// At every moment a crash leaves an image with the picture of a cut from the last that was written to the last that is sealed.
-    /// `Device` comes only where the disk's faults rose, and the volume has failed after it. After any fault but one that leaves the
-    /// front as it was, nothing may be performed any more.
+    /// A batch that doesn't fit the journal is written behind a checkpoint, and there is none but for such a batch.
+    /// `NotBuilt` comes only for a command that isn't built, and all is as before. `Device` comes only where the disk's faults rose, and the
+    /// volume has failed after it. After any fault but one that leaves the front as it was, nothing may be performed any more.
     pub fn step(&mut self, alloc: Global, actor: u8, command: &Command) -> Result<Reply, StepFault>
         requires actor { actor < 64 }
         requires fits { IsTrue (fits_command command.now) }
@@ -137,9 +163,7 @@ impl<D: Disk> Session<D> {
         requires last { is_last (journal_of self.old.volume.half).last (further self.old.first self.old.written) ≡ true }
         ensures stepped { IfOk result (λ reply. IsStepped self.old.front self.old.written actor command.now reply self.new.front self.new.written) }
         ensures settled { OnOk result (Settled self.new.volume.geometry self.new.volume.volume.items self.new.metadata self.new.front self.new.first self.new.written) }
-        ensures used { (room : Room) → HasUsed room self.old.front self.old.written self.old.volume.half → OnOk result (HasUsed room self.new.front self.new.written self.new.volume.half) }
-        ensures unblocked { (room : Room) → HasUsed room self.old.front self.old.written self.old.volume.half → OnOk result (is_blocked self.old.front.sizes room self.old.front.opening self.old.front.entries actor command.now ≡ false) }
-        ensures blocked { (room : Room) → HasUsed room self.old.front self.old.written self.old.volume.half → IsErrOf result StepFault.NotBuilt → is_blocked self.old.front.sizes room self.old.front.opening self.old.front.entries actor command.now ≡ true }
+        ensures journal { OnOk result (HasTaken self.new.front self.old.written self.new.written self.old.volume.half self.new.volume.half) }
         ensures first { self.new.first ≡ self.old.first }
         ensures geometry { self.new.volume.geometry ≡ self.old.volume.geometry }
         ensures last { OnOk result (is_last (journal_of self.new.volume.half).last (further self.new.first self.new.written) ≡ true) }
@@ -147,6 +171,9 @@ impl<D: Disk> Session<D> {
         ensures moments { D.tells → LeavesBy D.Disk self.old.volume.disk self.new.volume.disk (ShowsOneOf (record self.old.front { entries = next_history self.old.front actor command.now }) self.old.first self.old.written (seals_of (record self.old.front { entries = next_history self.old.front actor command.now }))) }
         ensures later { D.faults self.old.volume.disk ≤ D.faults self.new.volume.disk }
         ensures device { IsErrOf result StepFault.Device → Rose (D.faults self.old.volume.disk) (D.faults self.new.volume.disk) }
+        ensures answered { OnOk result (is_answered command.now ≡ true) }
+        ensures unbuilt { IsErrOf result StepFault.NotBuilt → is_answered command.now ≡ false }
+        ensures not_entered { IsErrOf result StepFault.NotBuilt → self.new ≡ self.old }
     {
         let reply = match self.front.act(actor, command) {
             Ok(reply) => reply,

@@ -2,16 +2,15 @@
 ghost use Rattle.std.specs.Prelude.{◌≡◌, ◌⊎◌, ◌≤◌, ◌↔◌, ◌*◌, ◌^◌, ◌++◌, ℕ, List, true, false, length, None, Some, Ok, Err, IsErr, IfOk, IfErr};
 ghost use Rattle.fault_counts.specs.Counts.{Rose};
 ghost use Rattle.script_text.specs.declared.scripts.Call.{Call};
-ghost use Rattle.script_text.specs.Scripts.{calls_of, first_unbuilt, is_long, IsFirstUnbuilt};
+ghost use Rattle.script_text.specs.Scripts.{calls_of};
 ghost use Rattle.script_text.specs.Texts.{usage_line};
 ghost use Rattle.gate_journal.specs.Runs.{Quiet};
-ghost use Rattle.ccfs_top.specs.Asked.{Mkfs, Run, Tree, asked_by};
-ghost use Rattle.ccfs_top.specs.Ends.{EndsWith, Wrote, joined};
-ghost use Rattle.ccfs_top.specs.Found.{IsFound};
-ghost use Rattle.ccfs_top.specs.Images.{Image, IsImage, Finding, Finds, Holds};
-ghost use Rattle.ccfs_top.specs.Left.{Done, Halts, Ran, Printed, IsNew};
-ghost use Rattle.ccfs_top.specs.Runs.{alone, calls_in, expected, fresh};
-ghost use Rattle.ccfs_top.specs.Stops.{Told, SaidOf};
+ghost use Rattle.ccfs_top.specs.Asked.{Mkfs, Run, Tree, IsStatusOf, asked_by};
+ghost use Rattle.ccfs_top.specs.Ends.{EndsWith, IsEarly, IsMadeStatus, IsRefusal, IsRunStatus, IsTreeStatus, Wrote};
+ghost use Rattle.ccfs_top.specs.Images.{Unread};
+ghost use Rattle.ccfs_top.specs.Left.{DoneOn, HaltsOn, Ran, Printed, IsNew};
+ghost use Rattle.ccfs_top.specs.Runs.{IsReady, IsUnready, alone, calls_in, expected, fresh};
+ghost use Rattle.ccfs_top.specs.Stops.{Decides, IsLate, Told, SaidOf};
 
 use crate::ended::Ended;
 use crate::finish::{Finished, run_disk};
@@ -49,23 +48,17 @@ fn run_script<D: Disk, S: Source, K: Sink>(
     script: &mut S,
     out: &mut K,
 ) -> Result<Finished<D>, Returned<Stop, D>>
-    ensures done { S.tells → D.tells → IfOk result (λ done. (calls : List Call) × (calls_of (S.left script.old) ≡ Ok calls) × (is_long (S.left script.old) ≡ false) × (first_unbuilt calls ≡ None)
-        × ((found : List ℕ) × IsFound (D.may_leave disk) (D.in_doubt disk) (D.seen disk) found
-        × ((image : Image) × IsImage image found × Done D.Disk disk done.disk calls image done.batches K.tells (K.held out.old) (K.held out.new)))) }
-    ensures halts { S.tells → D.tells → IfErr result (λ refused. (found : List ℕ) × IsFound (D.may_leave disk) (D.in_doubt disk) (D.seen disk) found
-        × ((seen : Finding Image) × Finds IsImage found seen
-        × Halts D.Disk disk refused.kept (calls_in (calls_of (S.left script.old))) seen (expected (S.left script.old) seen) refused.fault K.tells (K.held out.old) (K.held out.new))) }
+    ensures done { S.tells → D.tells → IfOk result (λ done. (calls : List Call) × IsReady (S.left script.old) calls × DoneOn D.Disk disk done.disk calls done.batches K.tells (K.held out.old) (K.held out.new)) }
+    ensures halts { S.tells → D.tells → IfErr result (λ refused. HaltsOn D.Disk disk refused.kept (calls_in (calls_of (S.left script.old))) (expected (S.left script.old)) refused.fault K.tells (K.held out.old) (K.held out.new)) }
+    ensures refused { S.tells → IfErr result (λ refused. (IsLate refused.fault → ⊥) → Decides (expected (S.left script.old) Unread) refused.fault) }
     ensures no_usage { IfErr result (λ refused. refused.fault ≡ Stop.Usage → ⊥) }
     ensures source { IfErr result (λ refused. refused.fault ≡ Stop.Source → Rose (S.faults script.old) (S.faults script.new)) }
     ensures sink_cause { IfErr result (λ refused. refused.fault ≡ Stop.Sink → Rose (K.faults out.old) (K.faults out.new)) }
     ensures sink_later { K.faults out.old ≤ K.faults out.new }
     ensures device { IfErr result (λ refused. refused.fault ≡ Stop.Disk → Rose (D.faults disk) (D.faults refused.kept)) }
-    ensures long_untouched { IfErr result (λ refused. refused.fault ≡ Stop.Long → refused.kept ≡ disk) }
-    ensures source_untouched { IfErr result (λ refused. refused.fault ≡ Stop.Source → refused.kept ≡ disk) }
-    ensures unparsed { S.tells → (line : ℕ) → calls_of (S.left script.old) ≡ Err line → IsErr result }
-    ensures unparsed_untouched { S.tells → (line : ℕ) → calls_of (S.left script.old) ≡ Err line → IfErr result (λ refused. refused.kept ≡ disk) }
-    ensures unbuilt { S.tells → (line : ℕ) → IsFirstUnbuilt (S.left script.old) line → IsErr result }
-    ensures unbuilt_untouched { S.tells → (line : ℕ) → IsFirstUnbuilt (S.left script.old) line → IfErr result (λ refused. refused.kept ≡ disk) }
+    ensures untouched { IfErr result (λ refused. (IsLate refused.fault → ⊥) → refused.kept ≡ disk) }
+    ensures unready { S.tells → IsUnready (S.left script.old) → IsErr result }
+    ensures unready_untouched { S.tells → IsUnready (S.left script.old) → IfErr result (λ refused. refused.kept ≡ disk) }
 {
     match read_calls(alloc, script) {
         Ok(calls) => run_disk(alloc, disk, &calls, out),
@@ -93,16 +86,15 @@ fn ended_by<D, K: Sink>(alloc: Global, stop: Stop, disk: D, out: &mut K) -> Ende
 
 /// Performs `run IMAGE SCRIPT`.
 fn run<D: Disk, S: Source, K: Sink>(alloc: Global, disk: D, script: &mut S, out: &mut K) -> Ended<D>
-    ensures not_usage { result.status ≡ 2 → ⊥ }
+    ensures statuses { IsRunStatus result.status }
+    ensures refused { S.tells → IsRefusal result.status → result.status ≡ (expected (S.left script.old) Unread).status }
     ensures ran { S.tells → D.tells → Ran D.Disk disk result.disk (S.left script.old) K.tells (Rose (K.faults out.old) (K.faults out.new)) result.status result.batches (K.held out.old) (K.held out.new) }
     ensures no_batches { (result.status ≡ 0 → ⊥) → result.batches ≡ 0 }
     ensures source_fault { result.status ≡ 5 → Rose (S.faults script.old) (S.faults script.new) }
     ensures sink_fault { result.status ≡ 6 → Rose (K.faults out.old) (K.faults out.new) }
     ensures disk_fault { result.status ≡ 7 → Rose (D.faults disk) (D.faults result.disk) }
-    ensures long_untouched { result.status ≡ 4 → result.disk ≡ disk }
-    ensures source_untouched { result.status ≡ 5 → result.disk ≡ disk }
-    ensures unparsed_untouched { S.tells → (line : ℕ) → calls_of (S.left script.old) ≡ Err line → result.disk ≡ disk }
-    ensures unbuilt_untouched { S.tells → (line : ℕ) → IsFirstUnbuilt (S.left script.old) line → result.disk ≡ disk }
+    ensures untouched { IsEarly result.status → result.disk ≡ disk }
+    ensures unready_untouched { S.tells → IsUnready (S.left script.old) → result.disk ≡ disk }
 {
     match run_script(alloc, disk, script, out) {
         Ok(Finished { batches, disk }) => Ended {
@@ -117,7 +109,8 @@ fn run<D: Disk, S: Source, K: Sink>(alloc: Global, disk: D, script: &mut S, out:
 /// Performs `mkfs IMAGE BLOCKS INODES`.
 fn mkfs<D: Disk, K: Sink>(alloc: Global, disk: D, geometry: &Geometry, out: &mut K) -> Ended<D>
     requires { 64 * 2 ^ 20 ≤ D.most }
-    ensures statuses { (result.status ≡ 0) ⊎ (result.status ≡ 6) ⊎ (result.status ≡ 7) ⊎ (result.status ≡ 9) }
+    ensures statuses { IsMadeStatus result.status }
+    ensures ends { EndsWith (fresh geometry.now.blocks geometry.now.inodes) 0 result.status result.batches }
     ensures wrote { K.tells → Wrote (fresh geometry.now.blocks geometry.now.inodes) (Rose (K.faults out.old) (K.faults out.new)) 0 result.status (K.held out.old) (K.held out.new) }
     ensures new { D.tells → D.in_doubt disk ≡ false → result.status ≡ 0 → IsNew D.Disk result.disk geometry.now.blocks geometry.now.inodes }
     ensures no_batches { result.batches ≡ 0 }
@@ -137,7 +130,7 @@ fn mkfs<D: Disk, K: Sink>(alloc: Global, disk: D, geometry: &Geometry, out: &mut
 
 /// Performs `tree IMAGE`.
 fn tree<D: Disk, K: Sink>(alloc: Global, disk: D, out: &mut K) -> Ended<D>
-    ensures statuses { (result.status ≡ 0) ⊎ (result.status ≡ 6) ⊎ (result.status ≡ 7) ⊎ (result.status ≡ 8) ⊎ (result.status ≡ 9) }
+    ensures statuses { IsTreeStatus result.status }
     ensures printed { D.tells → D.in_doubt disk ≡ false → Printed (D.seen disk) K.tells (Rose (K.faults out.old) (K.faults out.new)) result.status result.batches (K.held out.old) (K.held out.new) }
     ensures quiet { D.tells → Quiet D.Disk disk result.disk }
     ensures count { D.written result.disk ≡ D.written disk }
@@ -170,7 +163,8 @@ pub fn shell<D: Disk, S: Source, K: Sink>(
 ) -> Ended<D>
     // The greatest image has 64 MiB.
     requires { 64 * 2 ^ 20 ≤ D.most }
-    // Words that match no row, or name sizes that no image has; and no others.
+    // By what the words ask for: status 2 alone for words that match no row, or name sizes that no image has; and never for others.
+    ensures statuses { IsStatusOf (asked_by words.now) result.status }
     ensures usage { (result.status ≡ 2) ↔ (asked_by words.now ≡ None) }
     ensures usage_said { asked_by words.now ≡ None → K.tells → Wrote (alone 2 usage_line) (Rose (K.faults out.old) (K.faults out.new)) 0 result.status (K.held out.old) (K.held out.new) }
     // An image that is made.
@@ -180,6 +174,8 @@ pub fn shell<D: Disk, S: Source, K: Sink>(
     // A script that is run: what was found, how the run ended, what a crash leaves, and what was written.
     ensures ran { asked_by words.now ≡ Some Run → S.tells → D.tells
         → Ran D.Disk disk result.disk (S.left script.old) K.tells (Rose (K.faults out.old) (K.faults out.new)) result.status result.batches (K.held out.old) (K.held out.new) }
+    // A script that is refused, whatever the disk tells.
+    ensures refused { asked_by words.now ≡ Some Run → S.tells → IsRefusal result.status → result.status ≡ (expected (S.left script.old) Unread).status }
     // A tree that is printed, without a sync or a write.
     ensures printed { asked_by words.now ≡ Some Tree → D.tells → D.in_doubt disk ≡ false
         → Printed (D.seen disk) K.tells (Rose (K.faults out.old) (K.faults out.new)) result.status result.batches (K.held out.old) (K.held out.new) }
@@ -193,11 +189,8 @@ pub fn shell<D: Disk, S: Source, K: Sink>(
     ensures sink_fault { result.status ≡ 6 → Rose (K.faults out.old) (K.faults out.new) }
     ensures disk_fault { result.status ≡ 7 → Rose (D.faults disk) (D.faults result.disk) }
     // Until the words and the script are known to be right, the disk has no call.
-    ensures usage_untouched { result.status ≡ 2 → result.disk ≡ disk }
-    ensures long_untouched { result.status ≡ 4 → result.disk ≡ disk }
-    ensures source_untouched { result.status ≡ 5 → result.disk ≡ disk }
-    ensures unparsed_untouched { asked_by words.now ≡ Some Run → S.tells → (line : ℕ) → calls_of (S.left script.old) ≡ Err line → result.disk ≡ disk }
-    ensures unbuilt_untouched { asked_by words.now ≡ Some Run → S.tells → (line : ℕ) → IsFirstUnbuilt (S.left script.old) line → result.disk ≡ disk }
+    ensures untouched { IsEarly result.status → result.disk ≡ disk }
+    ensures unready_untouched { asked_by words.now ≡ Some Run → S.tells → IsUnready (S.left script.old) → result.disk ≡ disk }
 {
     match row_of(words) {
         None => ended_by(alloc, Stop::Usage, disk, out),

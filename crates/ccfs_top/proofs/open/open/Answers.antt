@@ -1,20 +1,21 @@
 use Rattle.tree_model.specs.Rows.{Rows}
-use Rattle.std.proofs.Common.{◌≡◌, ◌≤◌, List, ℕ, length, arith, rules, sym, ap, ◌∙◌, subst}
+use Rattle.std.proofs.Common.{◌≡◌, ◌≤◌, Some, List, ℕ, length, arith, rules, sym, ap, ◌∙◌, subst}
+use Rattle.std.proofs.lemmas.Result.{err_from_is_err_and}
 use Rattle.block_layout.specs.declared.geometry.Geometry.{Geometry}
-use Rattle.gate_journal.specs.Halves.{size_of}
-use Rattle.gate_journal.specs.Runs.{Quiet}
+use Rattle.gate_journal.specs.Journal.{Journal}
+use Rattle.image_model.specs.Checks.{is_last}
+use Rattle.recovery.specs.Opens.{Finds}
+use Rattle.recovery.specs.Recovering.{recovered_for_now}
+use Rattle.atomic_volume.specs.Held.{contents_by}
+use Rattle.ccfs_top.proofs.Opened.{shut_by, shut_behind}
 use Rattle.image_model.specs.Reading.{IsWhole}
 use Rattle.image_model.specs.Volumes.{volume_of, metadata}
 use Rattle.carried_volumes.specs.Carried.{HaveInodes}
 use Rattle.front_laws.specs.Logging.{metadata_size}
-use Rattle.front_core.specs.Fronts.{Fronted, new_front}
-use Rattle.recovery.specs.declared.fault.OpenFault.{OpenFault}
+use Rattle.front_core.specs.Fronts.{Fronted, sizes_of, new_front}
 use Rattle.recovery.specs.declared.fault.OpenFault.TheVariants as fault
-use Rattle.recovery.specs.Bad.{Says}
-use Rattle.ccfs_top.specs.Images.{IsImage}
-use Rattle.ccfs_top.specs.Runs.{image_by}
 use Rattle.ccfs_top.proofs.Committing.{metadata_long}
-use Rattle.ccfs_top.proofs.Imaged.{image_held, opened_is, settled_first}
+use Rattle.ccfs_top.proofs.Imaged.{image_found, opened_is, settled_first}
 use Rattle.ccfs_top.proofs.open.open.Goals as goal
 
 apart : fault.NoMemory ≡ fault.Device → ⊥
@@ -57,17 +58,35 @@ front_on-requires-clause-metadata g c =
 
 -- ---- an opened image
 
+pub returns-in-Ok-front_on-clause-way : goal.returns-in-Ok-front_on-clause-way
+returns-in-Ok-front_on-clause-way g c = λ told.
+    let o = c.in_ok-opened.opened in let v = o.volume in
+    subst (λ (z : Rows). Finds g.D.Disk c.args.disk v.disk (contents_by v.geometry v.half v.volume.items) (o.number, z)) (sym (ap (λ (z : Fronted). z.opening) c.in-Ok-front_on.ensures)) (c.in_ok-opened.ensures.found told)
+
+pub returns-in-Ok-front_on-clause-each : goal.returns-in-Ok-front_on-clause-each
+returns-in-Ok-front_on-clause-each g c = λ told image left.
+    subst (λ (z : Rows). recovered_for_now image ≡ Some (c.in_ok-opened.opened.number, z)) (sym (ap (λ (z : Fronted). z.opening) c.in-Ok-front_on.ensures)) (c.in_ok-opened.ensures.each told image left)
+
 pub returns-in-Ok-front_on-clause-opened : goal.returns-in-Ok-front_on-clause-opened
 returns-in-Ok-front_on-clause-opened g c = λ told.
-    let d = g.D.Disk in let o = c.in_ok-opened.opened in let v = o.volume in
-    let was = c.in_ok-opened.ensures.opened told in
-    let size : size_of v.half ≡ length v.volume.items = search (rules, v.size_is) in
-    let holds = v.sound told c.in_ok-opened.ensures.working (d.seen v.disk) (g.met.D.Disk.may_leave_seen told v.disk) in
-    let tree = ap (λ (z : Fronted). z.opening) c.in-Ok-front_on.ensures in (
-      d.seen v.disk,
+    let o = c.in_ok-opened.opened in let v = o.volume in
+    let was = returns-in-Ok-front_on-clause-way g c told in (
+      was.contents,
       record { from_start = was.one_of_them; as_seen = was.as_seen },
-      subst (λ (z : Rows). IsImage (image_by o.number z v.geometry v.half) (d.seen v.disk)) (sym tree) (image_held o.number o.tree v.geometry v.half v.volume.items (d.seen v.disk) holds size was.recovers),
+      image_found g.D.Disk c.args.disk v.disk o.number c.in-Ok-front_on.front v.geometry v.half v.volume.items
+          (ap (λ (z : Fronted). z.sizes) c.in-Ok-front_on.ensures ∙ ap sizes_of c.geometry-2.ensures) was,
     )
+
+pub returns-in-Ok-front_on-clause-last : goal.returns-in-Ok-front_on-clause-last
+returns-in-Ok-front_on-clause-last g c = ap (λ (j : Journal). is_last j.last c.in_ok-opened.opened.number) c.in_ok-opened.ensures.journal
+
+pub returns-in_err-opened-clause-shut : goal.returns-in_err-opened-clause-shut
+returns-in_err-opened-clause-shut g c = λ told.
+    let p = err_from_is_err_and c.from_residual.result c.from_residual.ensures.1 in
+    rw (p.1, p.2) (shut_by g.D.Disk c.args.disk _ _ (c.in_err-opened.ensures.refuses told) (c.in_err-opened.ensures.left told))
+
+pub returns-in-Ok-front_on-clause-small : goal.returns-in-Ok-front_on-clause-small
+returns-in-Ok-front_on-clause-small g c = let t = rw c.in_ok-opened.was at c.open.type_inv in omega (arith, t)
 
 pub returns-in-Ok-front_on-clause-new : goal.returns-in-Ok-front_on-clause-new
 returns-in-Ok-front_on-clause-new g c =
@@ -86,14 +105,11 @@ returns-in-Ok-front_on-clause-settled g c =
 
 -- ---- where there is no memory, what was found is handed back: it says nothing of the image
 
-pub returns-in_default-clause-refuses : goal.returns-in_default-clause-refuses
-returns-in_default-clause-refuses g c = λ told.
-    let was = c.in_ok-opened.ensures.opened told in
-    let found = g.D.Disk.seen c.in_ok-opened.opened.volume.disk in
-    record { contents = found; one_of_them = was.one_of_them; as_seen = was.as_seen; says = subst (λ (z : OpenFault). Says found z) (sym c.refused.ensures.fault) tt }
-
-pub returns-in_default-clause-quiet : goal.returns-in_default-clause-quiet
-returns-in_default-clause-quiet g c = λ told. subst (λ x. Quiet g.D.Disk c.args.disk x) (sym c.refused.ensures.kept) (c.in_ok-opened.ensures.quiet told)
+pub returns-in_default-clause-shut : goal.returns-in_default-clause-shut
+returns-in_default-clause-shut g c = λ told.
+    let o = c.in_ok-opened.opened in let v = o.volume in
+    shut_behind g.D.Disk c.args.disk v.disk c.refused.result.kept c.refused.result.fault (contents_by v.geometry v.half v.volume.items) (o.number, o.tree) (c.in_ok-opened.ensures.found told)
+    c.refused.ensures.kept c.refused.ensures.fault
 
 pub returns-in_default-clause-later : goal.returns-in_default-clause-later
 returns-in_default-clause-later g c = subst (λ x. g.D.Disk.faults c.args.disk ≤ g.D.Disk.faults x) (sym c.refused.ensures.kept) c.in_ok-opened.ensures.later
@@ -101,14 +117,11 @@ returns-in_default-clause-later g c = subst (λ x. g.D.Disk.faults c.args.disk �
 pub returns-in_default-clause-device : goal.returns-in_default-clause-device
 returns-in_default-clause-device g c = λ is. absurd (apart (sym c.refused.ensures.fault ∙ is))
 
-pub returns-in-Err-clause-refuses : goal.returns-in-Err-clause-refuses
-returns-in-Err-clause-refuses g c = λ told.
-    let was = c.in_ok-opened.ensures.opened told in
-    let found = g.D.Disk.seen c.in_ok-opened.opened.volume.disk in
-    record { contents = found; one_of_them = was.one_of_them; as_seen = was.as_seen; says = subst (λ (z : OpenFault). Says found z) (sym c.refused-in-Err.ensures.fault) tt }
-
-pub returns-in-Err-clause-quiet : goal.returns-in-Err-clause-quiet
-returns-in-Err-clause-quiet g c = λ told. subst (λ x. Quiet g.D.Disk c.args.disk x) (sym c.refused-in-Err.ensures.kept) (c.in_ok-opened.ensures.quiet told)
+pub returns-in-Err-clause-shut : goal.returns-in-Err-clause-shut
+returns-in-Err-clause-shut g c = λ told.
+    let o = c.in_ok-opened.opened in let v = o.volume in
+    shut_behind g.D.Disk c.args.disk v.disk c.refused-in-Err.result.kept c.refused-in-Err.result.fault (contents_by v.geometry v.half v.volume.items) (o.number, o.tree) (c.in_ok-opened.ensures.found told)
+    c.refused-in-Err.ensures.kept c.refused-in-Err.ensures.fault
 
 pub returns-in-Err-clause-later : goal.returns-in-Err-clause-later
 returns-in-Err-clause-later g c = subst (λ x. g.D.Disk.faults c.args.disk ≤ g.D.Disk.faults x) (sym c.refused-in-Err.ensures.kept) c.in_ok-opened.ensures.later

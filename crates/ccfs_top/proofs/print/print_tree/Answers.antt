@@ -10,7 +10,8 @@ use Rattle.tree_model.specs.Rows.{Rows}
 use Rattle.script_text.specs.Trees.{tree_lines}
 use Rattle.ccfs_top.specs.Images.{Holds, RecoversTo}
 use Rattle.ccfs_top.specs.Runs.{printed, over}
-use Rattle.ccfs_top.proofs.Finishing.{fault_decides, tree_fault, grew_tree, found_by, finds_refused, decides_refused, grew_refused}
+use Rattle.ccfs_top.proofs.Ending.{fault_decides, fault_late, open_late}
+use Rattle.ccfs_top.proofs.Finishing.{tree_fault, grew_tree, found_by, finds_refused, decides_refused, grew_refused}
 use Rattle.ccfs_top.proofs.print.print_tree.Goals as goal
 
 pub returns-in-Err-clause-halts : goal.returns-in-Err-clause-halts
@@ -46,10 +47,16 @@ returns-clause-halts g c = λ told settled.
     let fault = tree_fault s c.in-Err-write_tree.ensures.kinds in (
       Holds p,
       c.in-Ok.ensures.recovers told settled,
-      fault_decides (printed p) s fault.0,
+      fault_decides (printed p) s refl fault.0,
       λ sink_told. grew_tree (printed p) s old old new (sym (append-nil old)) fault.0
           (λ is.
           let part = c.in-Err-write_tree.ensures.sink sink_told (ap (λ z. Err z) is) in
           (part.0, part.1, subst (λ (z : List Item). IsPart part.0 (tree_lines v.number z)) spelled part.2))
           (λ not. c.in-Err-write_tree.ensures.unwritten sink_told (ap (λ z. Err z) (fault.1 not))),
     )
+
+pub returns-in-Err-clause-late : goal.returns-in-Err-clause-late
+returns-in-Err-clause-late g c = open_late c.stop_of_open.result c.in-Err.fault c.stop_of_open.ensures
+
+pub returns-clause-late : goal.returns-clause-late
+returns-clause-late g c = fault_late c.in-Err-write_tree.stop (tree_fault c.in-Err-write_tree.stop c.in-Err-write_tree.ensures.kinds).0

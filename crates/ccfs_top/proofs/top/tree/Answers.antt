@@ -1,9 +1,9 @@
-use Rattle.std.proofs.Common.{ap, refl, arith}
+use Rattle.std.proofs.Common.{inr, ap, refl, arith}
 use Rattle.std.specs.declared.result.Result.TheVariants.{Err}
 use Rattle.fault_counts.specs.Counts.{Rose}
 use Rattle.ccfs_top.specs.Images.{Holds}
 use Rattle.ccfs_top.specs.Runs.{over, printed}
-use Rattle.ccfs_top.proofs.Closing.{plain_printed, ends_with, ends_done, wrote_stop, wrote_done}
+use Rattle.ccfs_top.proofs.Closing.{late_status, plain_printed, ends_with, ends_done, wrote_stop, wrote_done}
 use Rattle.ccfs_top.proofs.top.tree.Goals as goal
 
 pub returns-in-Ok-clause-printed : goal.returns-in-Ok-clause-printed
@@ -39,3 +39,6 @@ returns-in-Err-clause-printed g c = λ told settled.
       wrote = λ sink_told. wrote_stop e stop 0 code (Rose (k.faults mid) (k.faults new)) (Rose (k.faults old) (k.faults new)) (k.held old) (k.held mid) (k.held new) o.2 (o.3 sink_told) (omega arith) (λ r. omega (arith, r, later))
           (λ is. let cause = c.in-Err.ensures.sink_cause (ap (λ z. Err z) is) in omega (arith, cause, last_later)) (c.ended_by.ensures.text sink_told);
     }
+
+pub returns-in-Err-clause-statuses : goal.returns-in-Err-clause-statuses
+returns-in-Err-clause-statuses g c = inr (late_status c.in-Err.stop c.ended_by.result.status c.ended_by.ensures.told c.in-Err.ensures.late)

@@ -1,32 +1,28 @@
-use Rattle.std.proofs.Common.{◌≡◌, ⊎_elim, ℕ, ◌+◌, ◌%◌, ◌^◌, ◌≤◌, true, List, length, arith, rules, refl, sym, ap, ◌∙◌, subst}
+use Rattle.std.proofs.Common.{◌≡◌, ⊎_elim, ℕ, ◌+◌, ◌≤◌, true, List, length, arith, rules, refl, sym, ap, ◌∙◌, subst}
 use Rattle.std.proofs.lemmas.Bool.{eq-eqb}
 use Rattle.ccfs_base.specs.declared.records.Rec.{Rec}
 use Rattle.ccfs_base.specs.Records.{AreInside}
+use Rattle.gate_journal.specs.declared.batches.Batch.{Batch}
+use Rattle.gate_journal.specs.Batches.{batch_bytes}
 use Rattle.gate_journal.specs.Journal.{Journal}
-use Rattle.gate_journal.specs.Halves.{size_of, journal_of, fits}
-use Rattle.atomic_volume.specs.Held.{contents_by}
-use Rattle.atomic_volume.specs.Commits.{committed}
+use Rattle.gate_journal.specs.Halves.{size_of, journal_of, fits, with_batch}
 use Rattle.atomic_volume.specs.Opening.{Contents, put_on}
 use Rattle.atomic_volume.specs.declared.fault.VolumeFault.TheVariants.{Device, NoMemory}
+use Rattle.image_model.specs.Volumes.{volume_of}
 use Rattle.image_model.specs.Checks.{is_last}
-use Rattle.batch_ranges.specs.Ranges.{ranges_by, metadata_after, batch_size, AreSome}
+use Rattle.batch_ranges.specs.Ranges.{batch_size, AreSome}
 use Rattle.ccfs_top.specs.Runs.{further}
-use Rattle.ccfs_top.specs.Sessions.{cut_tree}
-use Rattle.ccfs_top.proofs.Rooms.{size_at, size_is}
-use Rattle.ccfs_top.proofs.Committing.{next_number, may_follow_on, no_room, room_left, settled_shows, contents_show, recs_at, recs_inside, hand_enough, hand_some, recs_some, settled_on, settled_at}
+use Rattle.ccfs_top.specs.Taken.{recs_at, journal_for, size_at}
+use Rattle.ccfs_top.proofs.Rooms.{size_is, is_light, fits_for, last_for, room_left}
+use Rattle.ccfs_top.proofs.Committing.{next_number, may_follow_on, is_next, hand_after, recs_inside, hand_enough, hand_some, recs_some, settled_on, settled_at}
 use Rattle.ccfs_top.proofs.Writing.{few_seals}
-use Rattle.ccfs_top.proofs.Leaving.{stays_shown, commit_shown}
+use Rattle.ccfs_top.proofs.Commits.{still_shown, room_shown, commit_left}
 use Rattle.ccfs_top.proofs.session.Session.commit.Goals as goal
 
 apart : Device ≡ NoMemory → ⊥
 apart is = cc is
 
-pub returns-in_default-clause-moments : goal.returns-in_default-clause-moments
-returns-in_default-clause-moments g c = λ told.
-    let s = c.args.self.now in let v = s.volume in
-    stays_shown g.D.Disk v.geometry v.half v.volume.items s.front s.first s.written
-    (settled_shows v.geometry v.half v.volume.items s.metadata s.front s.first s.written c.requires.settled c.requires.last)
-    v.disk (v.sound told c.requires.working) s.written (s.written + 1) (omega arith) (omega arith) (g.met.D.Disk.earlier told v.disk) (g.met.D.Disk.only_now told v.disk)
+-- ---- the batch
 
 pub batch-requires-clause-inside : goal.batch-requires-clause-inside
 batch-requires-clause-inside g c =
@@ -39,55 +35,75 @@ batch-requires-clause-number g c =
     let s = c.args.self.now in let v = s.volume in
     hand_some v.geometry v.volume.items s.metadata s.front s.first s.written c.requires.settled c.is_kept.ensures.kept c.requires.more
 
-pub returns-then-not-accepts-clause-blocked : goal.returns-then-not-accepts-clause-blocked
-returns-then-not-accepts-clause-blocked g c = λ _.
+pub returns-in_default-clause-moments : goal.returns-in_default-clause-moments
+returns-in_default-clause-moments g c = λ told.
+    let s = c.args.self.now in let v = s.volume in
+    still_shown g.D.Disk v.disk v.geometry v.half v.volume.items s.metadata s.front s.first s.written
+    (record { settled = c.requires.settled; last = c.requires.last; sound = v.sound told c.requires.working })
+    (g.met.D.Disk.earlier told v.disk) (g.met.D.Disk.only_now told v.disk)
+
+-- ---- room for it
+
+pub make_room-requires-clause-follows : goal.make_room-requires-clause-follows
+make_room-requires-clause-follows g c =
     let s = c.args.self.now in let v = s.volume in let f = s.front in let b = c.in-Ok.batch in
     let size : size_of v.half ≡ length v.volume.items = search (rules, v.size_is) in
     let enough : length s.metadata ≤ size_of v.half = omega (arith, size, hand_enough v.geometry v.volume.items s.metadata f s.first s.written c.requires.settled c.is_kept.ensures.kept c.requires.more) in
-    let number : b.number ≡ further s.first (s.written + 1) = c.in-Ok.ensures.number ∙ next_number s.first s.written in
     let some : AreSome c.args.sealed.now.recs = subst (λ (z : List Rec). AreSome z) (ap (λ z. z.recs) (sym c.requires.next)) (recs_some f.sizes f.opening f.inodes f.entries s.written c.is_kept.ensures.kept) in
-    no_room (size_of v.half) (journal_of v.half) b (size_at f.sizes f.opening f.entries s.written) c.accepts.result c.accepts.ensures.other
-    (may_follow_on (size_of v.half) (journal_of v.half) b s.first s.written c.requires.last number (c.in-Ok.ensures.stands some (size_of v.half) enough))
-    (c.in-Ok.ensures.size ∙ ap batch_size (ap (λ z. z.recs) c.requires.next) ∙ size_is f.sizes f.opening f.inodes f.entries s.written c.is_kept.ensures.kept)
-    c.if-not-accepts.true
+    may_follow_on (size_of v.half) (journal_of v.half) b s.first s.written c.requires.last (c.in-Ok.ensures.number ∙ next_number s.first s.written) (c.in-Ok.ensures.stands some (size_of v.half) enough)
 
-pub returns-then-not-accepts-clause-moments : goal.returns-then-not-accepts-clause-moments
-returns-then-not-accepts-clause-moments g c = λ told.
+pub returns-in_err-make_room-clause-moments : goal.returns-in_err-make_room-clause-moments
+returns-in_err-make_room-clause-moments g c = λ told.
     let s = c.args.self.now in let v = s.volume in
-    stays_shown g.D.Disk v.geometry v.half v.volume.items s.front s.first s.written
-    (settled_shows v.geometry v.half v.volume.items s.metadata s.front s.first s.written c.requires.settled c.requires.last)
-    v.disk (v.sound told c.requires.working) s.written (s.written + 1) (omega arith) (omega arith) (g.met.D.Disk.earlier told v.disk) (g.met.D.Disk.only_now told v.disk)
+    room_shown g.D.Disk v.disk v.geometry v.half v.volume.items s.metadata s.front s.first s.written
+    (record { settled = c.requires.settled; last = c.requires.last; sound = v.sound told c.requires.working })
+    c.make_room.new.volume.disk (c.make_room.ensures.any_moment told)
 
 pub commit-requires-clause-fits : goal.commit-requires-clause-fits
-commit-requires-clause-fits g c = c.accepts.ensures.fits c.if-not-accepts.false
+commit-requires-clause-fits g c =
+    let s = c.args.self.now in let v = s.volume in let n = length (batch_bytes c.in-Ok.batch) in
+    let size : n ≡ batch_size (recs_at s.front s.written) = c.in-Ok.ensures.size ∙ ap batch_size (ap (λ z. z.recs) c.requires.next) in
+    let light = is_light s.front s.written (volume_of v.geometry v.volume.items) c.is_kept.ensures.kept c.requires.more c.requires.settled.carried in
+    ap (λ (j : Journal). fits j n) c.in_ok-make_room.ensures.journal ∙ fits_for (journal_of v.half) n (omega (arith, size, light))
 
 pub commit-requires-clause-follows : goal.commit-requires-clause-follows
-commit-requires-clause-follows g c = c.accepts.ensures.follows c.if-not-accepts.false
+commit-requires-clause-follows g c =
+    let s = c.args.self.now in let v = s.volume in let m = c.make_room.new.volume in let f = s.front in let b = c.in-Ok.batch in
+    let size : size_of m.half ≡ length m.volume.items = search (rules, m.size_is) in
+    let bytes = ap length c.make_room.ensures.bytes in
+    let enough : length s.metadata ≤ size_of m.half =
+    omega (arith, size, bytes, hand_enough v.geometry v.volume.items s.metadata f s.first s.written c.requires.settled c.is_kept.ensures.kept c.requires.more) in
+    let some : AreSome c.args.sealed.now.recs = subst (λ (z : List Rec). AreSome z) (ap (λ z. z.recs) (sym c.requires.next)) (recs_some f.sizes f.opening f.inodes f.entries s.written c.is_kept.ensures.kept) in
+    let last : is_last (journal_of m.half).last (further s.first s.written) ≡ true =
+    ap (λ (j : Journal). is_last j.last (further s.first s.written)) c.in_ok-make_room.ensures.journal ∙ last_for (journal_of v.half) (length (batch_bytes b)) (further s.first s.written) c.requires.last in
+    may_follow_on (size_of m.half) (journal_of m.half) b s.first s.written last (c.in-Ok.ensures.number ∙ next_number s.first s.written) (c.in-Ok.ensures.stands some (size_of m.half) enough)
+
+-- ---- once it is committed
 
 pub returns-in-Ok-commit-clause-settled : goal.returns-in-Ok-commit-clause-settled
 returns-in-Ok-commit-clause-settled g c =
-    let s = c.args.self.now in let v = s.volume in let n = c.commit.new.self in let b = c.in-Ok.batch in
-    let number = next_number s.first s.written in
-    let raw : ℕ = ((s.first + s.written) % 2 ^ 64 + 1) % 2 ^ 64 in
-    let same = ap (λ z. z.recs) c.requires.next in
-    let on = settled_on v.geometry v.volume.items s.metadata s.front s.first s.written c.requires.settled c.is_kept.ensures.kept c.requires.more b.ranges c.batch.new.self
-    (c.in-Ok.ensures.ranges ∙ ap (λ (z : List Rec). ranges_by s.metadata z raw) same ∙ ap (ranges_by s.metadata (recs_at s.front s.written)) number)
-    (c.in-Ok.ensures.left ∙ ap (λ (z : List Rec). metadata_after s.metadata z raw) same ∙ ap (metadata_after s.metadata (recs_at s.front s.written)) number) in
+    let s = c.args.self.now in let v = s.volume in let m = c.make_room.new.volume in let n = c.commit.new.self in let b = c.in-Ok.batch in
+    let number = next_number s.first s.written in let same = ap (λ z. z.recs) c.requires.next in
+    let next = is_next s.metadata s.front s.first s.written b c.args.sealed.now.recs _ same number c.in-Ok.ensures.number c.in-Ok.ensures.ranges in
+    let hand = hand_after s.metadata c.batch.new.self s.front s.first s.written c.args.sealed.now.recs _ same number c.in-Ok.ensures.left in
+    let on = settled_on v.geometry v.volume.items s.metadata s.front s.first s.written c.requires.settled c.is_kept.ensures.kept c.requires.more b.ranges c.batch.new.self (ap (λ (z : Batch). z.ranges) next) hand in
     settled_at v.geometry n.geometry (put_on v.volume.items b.ranges) n.volume.items c.batch.new.self s.front s.front s.first s.first (s.written + 1) (s.written + 1)
-    c.commit.ensures.geometry (ap (λ (z : Contents). z.bytes) c.in-Ok-commit.ensures.done) refl refl refl on
+    (c.commit.ensures.geometry ∙ c.make_room.ensures.geometry)
+    (ap (λ (z : Contents). z.bytes) c.in-Ok-commit.ensures.done ∙ ap (λ (z : List ℕ). put_on z b.ranges) c.make_room.ensures.bytes) refl refl refl on
 
-pub returns-in-Ok-commit-clause-accepted : goal.returns-in-Ok-commit-clause-accepted
-returns-in-Ok-commit-clause-accepted g c =
-    let s = c.args.self.now in let v = s.volume in let f = s.front in
-    subst (λ (z : ℕ). fits (journal_of v.half) z ≡ true)
-    (c.in-Ok.ensures.size ∙ ap batch_size (ap (λ z. z.recs) c.requires.next) ∙ size_is f.sizes f.opening f.inodes f.entries s.written c.is_kept.ensures.kept)
-    (c.accepts.ensures.fits c.if-not-accepts.false)
+pub returns-in-Ok-commit-clause-journal : goal.returns-in-Ok-commit-clause-journal
+returns-in-Ok-commit-clause-journal g c =
+    let s = c.args.self.now in let v = s.volume in let b = c.in-Ok.batch in
+    let next = is_next s.metadata s.front s.first s.written b c.args.sealed.now.recs _ (ap (λ z. z.recs) c.requires.next) (next_number s.first s.written) c.in-Ok.ensures.number c.in-Ok.ensures.ranges in
+    c.in-Ok-commit.ensures.journal ∙ ap (λ (j : Journal). with_batch j b) c.in_ok-make_room.ensures.journal
+    ∙ ap (λ (z : Batch). with_batch (journal_for (journal_of v.half) (length (batch_bytes z))) z) next
 
-pub returns-in-Ok-commit-clause-room : goal.returns-in-Ok-commit-clause-room
-returns-in-Ok-commit-clause-room g c =
-    let s = c.args.self.now in let v = s.volume in let f = s.front in
-    room_left (journal_of v.half) (journal_of c.commit.new.self.half) c.in-Ok.batch (size_at f.sizes f.opening f.entries s.written) c.in-Ok-commit.ensures.journal
-    (c.in-Ok.ensures.size ∙ ap batch_size (ap (λ z. z.recs) c.requires.next) ∙ size_is f.sizes f.opening f.inodes f.entries s.written c.is_kept.ensures.kept)
+pub returns-in-Ok-commit-clause-taken : goal.returns-in-Ok-commit-clause-taken
+returns-in-Ok-commit-clause-taken g c =
+    let s = c.args.self.now in let v = s.volume in let b = c.in-Ok.batch in
+    room_left (journal_of v.half) (journal_of c.commit.new.self.half) b (size_at s.front s.written)
+    (c.in-Ok-commit.ensures.journal ∙ ap (λ (j : Journal). with_batch j b) c.in_ok-make_room.ensures.journal)
+    (c.in-Ok.ensures.size ∙ ap batch_size (ap (λ z. z.recs) c.requires.next) ∙ size_is s.front s.written c.is_kept.ensures.kept)
 
 pub returns-in-Ok-commit-clause-last : goal.returns-in-Ok-commit-clause-last
 returns-in-Ok-commit-clause-last g c =
@@ -97,54 +113,41 @@ returns-in-Ok-commit-clause-last g c =
 
 pub returns-in-Ok-commit-clause-moments : goal.returns-in-Ok-commit-clause-moments
 returns-in-Ok-commit-clause-moments g c = λ told.
-    let s = c.args.self.now in let v = s.volume in let b = c.in-Ok.batch in
-    let number = next_number s.first s.written in
-    let raw : ℕ = ((s.first + s.written) % 2 ^ 64 + 1) % 2 ^ 64 in
-    let same = ap (λ z. z.recs) c.requires.next in
-    let on = settled_on v.geometry v.volume.items s.metadata s.front s.first s.written c.requires.settled c.is_kept.ensures.kept c.requires.more b.ranges c.batch.new.self
-    (c.in-Ok.ensures.ranges ∙ ap (λ (z : List Rec). ranges_by s.metadata z raw) same ∙ ap (ranges_by s.metadata (recs_at s.front s.written)) number)
-    (c.in-Ok.ensures.left ∙ ap (λ (z : List Rec). metadata_after s.metadata z raw) same ∙ ap (metadata_after s.metadata (recs_at s.front s.written)) number) in
-    let last = eq-eqb b.number (further s.first (s.written + 1)) (c.in-Ok.ensures.number ∙ number) in
-    commit_shown g.D.Disk v.geometry v.half v.volume.items s.front s.first s.written
-    (settled_shows v.geometry v.half v.volume.items s.metadata s.front s.first s.written c.requires.settled c.requires.last)
-    v.disk (v.sound told c.requires.working) c.commit.new.self.disk b
-    (contents_show (committed (contents_by v.geometry v.half v.volume.items) b) (cut_tree s.front (s.written + 1)) s.front.inodes (further s.first (s.written + 1)) on.carried on.number last)
-    (c.commit.ensures.any_moment told)
+    let s = c.args.self.now in let v = s.volume in let m = c.make_room.new.volume in let b = c.in-Ok.batch in
+    let number = next_number s.first s.written in let same = ap (λ z. z.recs) c.requires.next in
+    let next = is_next s.metadata s.front s.first s.written b c.args.sealed.now.recs _ same number c.in-Ok.ensures.number c.in-Ok.ensures.ranges in
+    let hand = hand_after s.metadata c.batch.new.self s.front s.first s.written c.args.sealed.now.recs _ same number c.in-Ok.ensures.left in
+    commit_left g.D.Disk v.disk m.disk c.commit.new.self.disk v.geometry m.geometry v.half m.half v.volume.items m.volume.items s.metadata c.batch.new.self s.front s.first s.written (length (batch_bytes b)) b
+    (record { settled = c.requires.settled; last = c.requires.last; sound = v.sound told c.requires.working }) c.is_kept.ensures.kept c.requires.more
+    c.make_room.ensures.geometry c.make_room.ensures.bytes c.in_ok-make_room.ensures.journal (m.sound told c.in_ok-make_room.ensures.working) next hand
+    (c.make_room.ensures.any_moment told) (c.commit.ensures.any_moment told)
 
 pub returns-in-Err-Device-clause-moments : goal.returns-in-Err-Device-clause-moments
 returns-in-Err-Device-clause-moments g c = λ told.
-    let s = c.args.self.now in let v = s.volume in let b = c.in-Ok.batch in
-    let number = next_number s.first s.written in
-    let raw : ℕ = ((s.first + s.written) % 2 ^ 64 + 1) % 2 ^ 64 in
-    let same = ap (λ z. z.recs) c.requires.next in
-    let on = settled_on v.geometry v.volume.items s.metadata s.front s.first s.written c.requires.settled c.is_kept.ensures.kept c.requires.more b.ranges c.batch.new.self
-    (c.in-Ok.ensures.ranges ∙ ap (λ (z : List Rec). ranges_by s.metadata z raw) same ∙ ap (ranges_by s.metadata (recs_at s.front s.written)) number)
-    (c.in-Ok.ensures.left ∙ ap (λ (z : List Rec). metadata_after s.metadata z raw) same ∙ ap (metadata_after s.metadata (recs_at s.front s.written)) number) in
-    let last = eq-eqb b.number (further s.first (s.written + 1)) (c.in-Ok.ensures.number ∙ number) in
-    commit_shown g.D.Disk v.geometry v.half v.volume.items s.front s.first s.written
-    (settled_shows v.geometry v.half v.volume.items s.metadata s.front s.first s.written c.requires.settled c.requires.last)
-    v.disk (v.sound told c.requires.working) c.commit.new.self.disk b
-    (contents_show (committed (contents_by v.geometry v.half v.volume.items) b) (cut_tree s.front (s.written + 1)) s.front.inodes (further s.first (s.written + 1)) on.carried on.number last)
-    (c.commit.ensures.any_moment told)
+    let s = c.args.self.now in let v = s.volume in let m = c.make_room.new.volume in let b = c.in-Ok.batch in
+    let number = next_number s.first s.written in let same = ap (λ z. z.recs) c.requires.next in
+    let next = is_next s.metadata s.front s.first s.written b c.args.sealed.now.recs _ same number c.in-Ok.ensures.number c.in-Ok.ensures.ranges in
+    let hand = hand_after s.metadata c.batch.new.self s.front s.first s.written c.args.sealed.now.recs _ same number c.in-Ok.ensures.left in
+    commit_left g.D.Disk v.disk m.disk c.commit.new.self.disk v.geometry m.geometry v.half m.half v.volume.items m.volume.items s.metadata c.batch.new.self s.front s.first s.written (length (batch_bytes b)) b
+    (record { settled = c.requires.settled; last = c.requires.last; sound = v.sound told c.requires.working }) c.is_kept.ensures.kept c.requires.more
+    c.make_room.ensures.geometry c.make_room.ensures.bytes c.in_ok-make_room.ensures.journal (m.sound told c.in_ok-make_room.ensures.working) next hand
+    (c.make_room.ensures.any_moment told) (c.commit.ensures.any_moment told)
 
 pub returns-clause-moments : goal.returns-clause-moments
 returns-clause-moments g c = λ told.
-    let s = c.args.self.now in let v = s.volume in let b = c.in-Ok.batch in
-    let number = next_number s.first s.written in
-    let raw : ℕ = ((s.first + s.written) % 2 ^ 64 + 1) % 2 ^ 64 in
-    let same = ap (λ z. z.recs) c.requires.next in
-    let on = settled_on v.geometry v.volume.items s.metadata s.front s.first s.written c.requires.settled c.is_kept.ensures.kept c.requires.more b.ranges c.batch.new.self
-    (c.in-Ok.ensures.ranges ∙ ap (λ (z : List Rec). ranges_by s.metadata z raw) same ∙ ap (ranges_by s.metadata (recs_at s.front s.written)) number)
-    (c.in-Ok.ensures.left ∙ ap (λ (z : List Rec). metadata_after s.metadata z raw) same ∙ ap (metadata_after s.metadata (recs_at s.front s.written)) number) in
-    let last = eq-eqb b.number (further s.first (s.written + 1)) (c.in-Ok.ensures.number ∙ number) in
-    commit_shown g.D.Disk v.geometry v.half v.volume.items s.front s.first s.written
-    (settled_shows v.geometry v.half v.volume.items s.metadata s.front s.first s.written c.requires.settled c.requires.last)
-    v.disk (v.sound told c.requires.working) c.commit.new.self.disk b
-    (contents_show (committed (contents_by v.geometry v.half v.volume.items) b) (cut_tree s.front (s.written + 1)) s.front.inodes (further s.first (s.written + 1)) on.carried on.number last)
-    (c.commit.ensures.any_moment told)
+    let s = c.args.self.now in let v = s.volume in let m = c.make_room.new.volume in let b = c.in-Ok.batch in
+    let number = next_number s.first s.written in let same = ap (λ z. z.recs) c.requires.next in
+    let next = is_next s.metadata s.front s.first s.written b c.args.sealed.now.recs _ same number c.in-Ok.ensures.number c.in-Ok.ensures.ranges in
+    let hand = hand_after s.metadata c.batch.new.self s.front s.first s.written c.args.sealed.now.recs _ same number c.in-Ok.ensures.left in
+    commit_left g.D.Disk v.disk m.disk c.commit.new.self.disk v.geometry m.geometry v.half m.half v.volume.items m.volume.items s.metadata c.batch.new.self s.front s.first s.written (length (batch_bytes b)) b
+    (record { settled = c.requires.settled; last = c.requires.last; sound = v.sound told c.requires.working }) c.is_kept.ensures.kept c.requires.more
+    c.make_room.ensures.geometry c.make_room.ensures.bytes c.in_ok-make_room.ensures.journal (m.sound told c.in_ok-make_room.ensures.working) next hand
+    (c.make_room.ensures.any_moment told) (c.commit.ensures.any_moment told)
 
 pub returns-in-Err-Device-clause-device : goal.returns-in-Err-Device-clause-device
-returns-in-Err-Device-clause-device g c = λ _. ⊎_elim (λ failed. failed.2) (λ wanting. absurd (apart (sym c.in-Err-Device.field-0-is ∙ wanting.0))) c.in-Err-Device.ensures.faults
+returns-in-Err-Device-clause-device g c = λ _.
+    let before = c.make_room.ensures.later in
+    ⊎_elim (λ failed. let rose = failed.2 in omega (arith, rose, before)) (λ wanting. absurd (apart (sym c.in-Err-Device.field-0-is ∙ wanting.0))) c.in-Err-Device.ensures.faults
 
 pub overflow_add-self : goal.overflow_add-self
 overflow_add-self g c =

@@ -1,10 +1,10 @@
-use Rattle.std.proofs.Common.{◌≡◌, false, sym, ◌∙◌, arith, rules}
+use Rattle.std.proofs.Common.{sym, ◌∙◌, arith, rules}
 use Rattle.front_core.specs.Fronts.{seals_of}
-use Rattle.ccfs_top.specs.Stages.{is_sync_form}
 use Rattle.ccfs_top.specs.Sessions.{ShowsOneOf}
+use Rattle.ccfs_top.proofs.Rooms.{none_taken}
 use Rattle.ccfs_top.proofs.Committing.{settled_shows}
 use Rattle.ccfs_top.proofs.Leaving.{stays_shown, leaves_wider}
-use Rattle.ccfs_top.proofs.Stepping.{acted_longer, settled_acted, settled_asked, asked_of, shows_acted, not_blocked, sync_blocked, unanswered_blocked, used_longer, all_fit_when, stepped_sync, stepped_other}
+use Rattle.ccfs_top.proofs.Stepping.{settled_acted, settled_asked, asked_of, shows_acted, stepped_sync, stepped_other}
 use Rattle.ccfs_top.proofs.session.Session.step.Goals as goal
 
 -- ---- where the front refuses
@@ -25,10 +25,8 @@ returns-in-Err-NoMemory-clause-moments g c = λ told.
     (settled_shows v.geometry v.half v.volume.items s.metadata (asked_of s.front actor command) s.first s.written there c.requires.last)
     v.disk (v.sound told c.requires.working) s.written (seals_of (asked_of s.front actor command)) (omega arith) there.few (g.met.D.Disk.earlier told v.disk) (g.met.D.Disk.only_now told v.disk)
 
-pub returns-in-Err-NotBuilt-clause-blocked : goal.returns-in-Err-NotBuilt-clause-blocked
-returns-in-Err-NotBuilt-clause-blocked g c = λ room so_far is.
-    let f = c.args.self.now.front in
-    unanswered_blocked f.sizes room f.opening f.entries c.args.actor c.args.command.now (c.act.ensures.unbuilt (search rules))
+pub returns-in-Err-NotBuilt-clause-unbuilt : goal.returns-in-Err-NotBuilt-clause-unbuilt
+returns-in-Err-NotBuilt-clause-unbuilt g c = λ _. c.act.ensures.unbuilt (search rules)
 
 -- the history isn't full
 pub unreachable-requires : goal.unreachable-requires
@@ -49,16 +47,10 @@ returns-then-not-is_sync_form-clause-settled g c =
     let s = c.args.self.now in let v = s.volume in
     settled_acted v.geometry v.volume.items s.metadata s.front c.act.new.self s.first s.written c.args.actor c.args.command.now c.in-Ok.ensures.acted c.requires.settled
 
-pub returns-then-not-is_sync_form-clause-used : goal.returns-then-not-is_sync_form-clause-used
-returns-then-not-is_sync_form-clause-used g c = λ room so_far.
+pub returns-then-not-is_sync_form-clause-journal : goal.returns-then-not-is_sync_form-clause-journal
+returns-then-not-is_sync_form-clause-journal g c =
     let s = c.args.self.now in
-    used_longer s.front c.act.new.self (acted_longer s.front c.act.new.self c.args.actor c.args.command.now c.in-Ok.ensures.acted) room s.written s.volume.half c.requires.settled.few so_far
-
-pub returns-then-not-is_sync_form-clause-unblocked : goal.returns-then-not-is_sync_form-clause-unblocked
-returns-then-not-is_sync_form-clause-unblocked g c = λ room so_far.
-    let s = c.args.self.now in
-    let other : is_sync_form c.args.command.now ≡ false = sym c.is_sync_form.ensures ∙ c.if-not-is_sync_form.true in
-    not_blocked room s.front c.act.new.self c.args.actor c.args.command.now c.in-Ok.ensures.acted c.in-Ok.ensures.built (λ is. absurd (cc (is, other)))
+    none_taken c.act.new.self s.written s.volume.half
 
 pub returns-then-not-is_sync_form-clause-moments : goal.returns-then-not-is_sync_form-clause-moments
 returns-then-not-is_sync_form-clause-moments g c = λ told.
@@ -85,13 +77,6 @@ returns-in_err-write_all-clause-moments g c = λ told.
     leaves_wider g.D.Disk s.volume.disk n.volume.disk (ShowsOneOf mid s.first s.written (seals_of mid)) (ShowsOneOf asked s.first s.written (seals_of asked))
     (λ x. shows_acted s.front mid s.first s.written (seals_of mid) c.args.actor c.args.command.now x c.in-Ok.ensures.acted (omega arith)) (c.write_all.ensures.moments told)
 
-pub returns-in_err-write_all-clause-blocked : goal.returns-in_err-write_all-clause-blocked
-returns-in_err-write_all-clause-blocked g c = λ room so_far is.
-    let s = c.args.self.now in let mid = c.act.new.self in
-    sync_blocked room s.front mid c.args.actor c.args.command.now c.in-Ok.ensures.acted (sym c.is_sync_form.ensures ∙ c.if-not-is_sync_form.false)
-    (c.write_all.ensures.blocked room
-    (used_longer s.front mid (acted_longer s.front mid c.args.actor c.args.command.now c.in-Ok.ensures.acted) room s.written s.volume.half c.requires.settled.few so_far) (search rules))
-
 pub returns-in_err-write_all-clause-device : goal.returns-in_err-write_all-clause-device
 returns-in_err-write_all-clause-device g c = λ is. c.write_all.ensures.device (search rules)
 
@@ -100,20 +85,6 @@ returns-clause-stepped g c =
     let s = c.args.self.now in let n = c.write_all.new.self in
     stepped_sync s.front c.act.new.self n.front s.written n.written c.args.actor c.args.command.now c.in-Ok.reply c.in-Ok.ensures.acted c.in-Ok.ensures.reply
     c.write_all.ensures.front c.in_ok-write_all.ensures.written (sym c.is_sync_form.ensures ∙ c.if-not-is_sync_form.false)
-
-pub returns-clause-used : goal.returns-clause-used
-returns-clause-used g c = λ room so_far.
-    let s = c.args.self.now in let mid = c.act.new.self in
-    c.in_ok-write_all.ensures.used room
-    (used_longer s.front mid (acted_longer s.front mid c.args.actor c.args.command.now c.in-Ok.ensures.acted) room s.written s.volume.half c.requires.settled.few so_far)
-
-pub returns-clause-unblocked : goal.returns-clause-unblocked
-returns-clause-unblocked g c = λ room so_far.
-    let s = c.args.self.now in let mid = c.act.new.self in let n = c.write_all.new.self in
-    not_blocked room s.front mid c.args.actor c.args.command.now c.in-Ok.ensures.acted c.in-Ok.ensures.built
-    (λ is. all_fit_when room mid n.front (seals_of mid) n.written n.volume.half c.write_all.ensures.front c.in_ok-write_all.ensures.written
-    (c.in_ok-write_all.ensures.used room
-    (used_longer s.front mid (acted_longer s.front mid c.args.actor c.args.command.now c.in-Ok.ensures.acted) room s.written s.volume.half c.requires.settled.few so_far)))
 
 pub returns-clause-moments : goal.returns-clause-moments
 returns-clause-moments g c = λ told.

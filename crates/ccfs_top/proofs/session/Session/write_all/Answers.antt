@@ -1,12 +1,12 @@
-use Rattle.std.proofs.Common.{◌+◌, ℕ, refl, sym, ap, ◌∙◌, subst, arith, rules}
-use Rattle.std.specs.Prelude.{IsErrOf}
-use Rattle.ccfs_top.specs.declared.session.StepFault.TheVariants.{NotBuilt}
+use Rattle.std.proofs.Common.{◌≡◌, ◌+◌, ℕ, refl, sym, ap, ◌∙◌, subst, arith, rules}
+use Rattle.gate_journal.specs.Halves.{journal_of}
 use Rattle.front_core.specs.Fronts.{Fronted, seals_of}
-use Rattle.ccfs_top.specs.Sessions.{Settled, HasUsed, ShowsOneOf, all_fit}
-use Rattle.ccfs_top.proofs.Rooms.{has_used_more, not_all_fit}
+use Rattle.ccfs_top.specs.Taken.{room_in, taken_by, size_at, HasTaken}
+use Rattle.ccfs_top.specs.Sessions.{Settled, ShowsOneOf}
+use Rattle.ccfs_top.proofs.Rooms.{none_taken, one_taken}
 use Rattle.ccfs_top.proofs.Committing.{settled_shows}
 use Rattle.ccfs_top.proofs.Leaving.{stays_shown, leaves_join, leaves_wider}
-use Rattle.ccfs_top.proofs.Writing.{settled_handed, used_handed, shows_all, next_is, next_more, all_written}
+use Rattle.ccfs_top.proofs.Writing.{settled_handed, taken_handed, shows_all, next_is, next_more, all_written}
 use Rattle.ccfs_top.proofs.session.Session.write_all.Goals as goal
 
 pub loop-batch-init : goal.loop-batch-init
@@ -18,7 +18,7 @@ loop-batch-init g c =
       first = refl;
       written = omega arith;
       settled = subst (λ (z : Fronted). Settled v.geometry v.volume.items s.metadata z s.first s.written) (sym left) (settled_handed v.geometry v.volume.items s.metadata s.front n s.first s.written c.requires.settled);
-      used = λ room so_far. subst (λ (z : Fronted). HasUsed room z s.written v.half) (sym left) (used_handed room s.front n s.written v.half so_far);
+      taken = none_taken s.front s.written v.half;
       last = c.requires.last;
       working = c.requires.working;
       geometry = refl;
@@ -47,17 +47,6 @@ returns-in_err-commit-clause-moments g c = λ told.
     (leaves_wider g.D.Disk l.self.volume.disk n.volume.disk (ShowsOneOf l.self.front l.self.first l.self.written (l.self.written + 1)) (ShowsOneOf s.front s.first s.written (seals_of s.front))
     (λ x. shows_all s.front l.self.front s.first l.self.first s.written l.self.written l.batch-index x l.invariant.front l.invariant.first l.invariant.written more) (c.commit.ensures.moments told))
 
--- what follows from the refusal of one batch
-after_refusal : {A B H C : Type 0} → (A → B) → (H → B → C) → H → A → C
-after_refusal refused so h a = so h (refused a)
-
-pub returns-in_err-commit-clause-blocked : goal.returns-in_err-commit-clause-blocked
-returns-in_err-commit-clause-blocked g c = λ room. after_refusal {B = IsErrOf c.commit.result NotBuilt} (λ is. search rules) (λ so_far refused.
-    let s = c.args.self.now in let l = c.loop-batch in
-    let more = next_more s.front l.self.front c.deref-batch-items.result.now s.written l.self.written l.batch-index l.invariant.front c.requires.handed l.invariant.written (c.deref-batch-items.ensures.value ∙ c.take_sealed-sealed.ensures.taken) c.loop-batch-test.true in
-    ap (all_fit room) (sym l.invariant.front)
-    ∙ not_all_fit room l.self.front l.self.written l.self.volume.half (l.invariant.used room so_far) more (c.commit.ensures.blocked refused))
-
 pub returns-in_err-commit-clause-device : goal.returns-in_err-commit-clause-device
 returns-in_err-commit-clause-device g c = λ is.
     let rose = c.commit.ensures.device (search rules) in let before = c.loop-batch.invariant.later in
@@ -72,10 +61,12 @@ loop-batch-preserved g c =
       first = c.commit.ensures.first ∙ l.invariant.first;
       written = let one = c.in_ok-commit.ensures.written in let so_far = l.invariant.written in omega (arith, one, so_far);
       settled = c.in_ok-commit.ensures.settled;
-      used = λ room so_far.
-          subst (λ (z : Fronted). HasUsed room z n.written n.volume.half) (sym c.commit.ensures.front)
-          (subst (λ (z : ℕ). HasUsed room l.self.front z n.volume.half) (sym c.in_ok-commit.ensures.written)
-          (has_used_more room l.self.front l.self.written l.self.volume.half n.volume.half (l.invariant.used room so_far) c.in_ok-commit.ensures.accepted c.in_ok-commit.ensures.room));
+      taken =
+          let so_far = l.invariant.written in
+          let one : room_in (journal_of n.volume.half) ≡ taken_by (room_in (journal_of l.self.volume.half)) (size_at s.front l.self.written) =
+          c.in_ok-commit.ensures.taken ∙ ap (λ (z : Fronted). taken_by (room_in (journal_of l.self.volume.half)) (size_at z l.self.written)) l.invariant.front in
+          subst (λ (z : ℕ). HasTaken s.front s.written z s.volume.half n.volume.half) (sym c.in_ok-commit.ensures.written)
+          (one_taken s.front s.written l.self.written s.volume.half l.self.volume.half n.volume.half (omega (arith, so_far)) l.invariant.taken one);
       last = c.in_ok-commit.ensures.last;
       working = c.in_ok-commit.ensures.working;
       geometry = c.commit.ensures.geometry ∙ l.invariant.geometry;
@@ -89,3 +80,8 @@ pub returns-clause-written : goal.returns-clause-written
 returns-clause-written g c =
     let s = c.args.self.now in let l = c.loop-batch in
     all_written s.front c.take_sealed-sealed.result.items s.written l.self.written l.batch-index c.requires.handed c.requires.settled.few l.invariant.written c.take_sealed-sealed.ensures.taken (omega arith)
+
+pub returns-clause-journal : goal.returns-clause-journal
+returns-clause-journal g c =
+    let s = c.args.self.now in let l = c.loop-batch in
+    taken_handed s.front l.self.front (seals_of s.front) s.written l.self.written s.volume.half l.self.volume.half l.invariant.front l.invariant.taken

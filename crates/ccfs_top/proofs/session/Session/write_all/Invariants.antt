@@ -4,8 +4,8 @@ use Rattle.gate_journal.specs.Runs.{LeavesBy}
 use Rattle.image_model.specs.Checks.{is_last}
 use Rattle.front_core.specs.Fronts.{seals_of}
 use Rattle.ccfs_top.specs.Runs.{further}
-use Rattle.ccfs_top.specs.Stages.{Room}
-use Rattle.ccfs_top.specs.Sessions.{Settled, HasUsed, ShowsOneOf}
+use Rattle.ccfs_top.specs.Taken.{HasTaken}
+use Rattle.ccfs_top.specs.Sessions.{Settled, ShowsOneOf}
 use Rattle.ccfs_top.proofs.Writing.{handed_to}
 use Rattle.ccfs_top.proofs.session.Session.write_all.Given as goal
 
@@ -16,7 +16,7 @@ invariant-loop-batch g l = let old = l.fn.self in let v = l.self.volume in recor
   first : l.self.first ≡ old.first;
   written : l.self.written ≡ old.written + l.batch-index;
   settled : Settled v.geometry v.volume.items l.self.metadata l.self.front l.self.first l.self.written;
-  used : (room : Room) → HasUsed room old.front old.written old.volume.half → HasUsed room l.self.front l.self.written v.half;
+  taken : HasTaken old.front old.written l.self.written old.volume.half v.half;
   last : is_last (journal_of v.half).last (further l.self.first l.self.written) ≡ true;
   working : v.failed ≡ false;
   geometry : v.geometry ≡ old.volume.geometry;

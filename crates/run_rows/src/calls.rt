@@ -1,25 +1,12 @@
-//! What the tests of the top call share: words, scripts and runs on disks in memory.
-use super::*;
+//! Calls of the program on disks in memory.
 use ccfs_base::{Bytes, MemSink, MemSource, NoMemory};
-use disk_model::MemDisk;
+use ccfs_top::{Ended, shell};
+use disk_model::{Disk, MemDisk};
 use std::alloc::Global;
-
-/// A directory, a file in it, and both made durable.
-pub const FIRST: &[u8] = b"0 mkdir /a\n0 create /a/f\n0 streamsync\n";
-
-/// The tree text of a fresh image.
-pub const FRESH_TREE: &[u8] = b"batches 0\ndir / entries 0 changes 0\n";
-
-/// The tree text of an image with that script's tree.
-pub const FIRST_TREE: &[u8] =
-    b"batches 1\ndir / entries 1 changes 1\ndir /a entries 1 changes 1\nfile /a/f length 0 data -\n";
-
-/// The output of that script on a fresh image.
-pub const FIRST_TEXT: &[u8] =
-    b"0 ok\n0 ok\n0 ok 1\nbatches 1\ndir / entries 1 changes 1\ndir /a entries 1 changes 1\nfile /a/f length 0 data -\n";
+use std::test::Fail;
 
 /// Words, each of them a string.
-pub fn words_of(alloc: Global, texts: &[&str]) -> Result<Vec<String>, NoMemory> {
+pub(crate) fn words_of(alloc: Global, texts: &[&str]) -> Result<Vec<String>, NoMemory> {
     let mut words = Vec::new(alloc);
     for text in texts {
         words.push(String::from_str(alloc, text)?)?;
@@ -28,7 +15,7 @@ pub fn words_of(alloc: Global, texts: &[&str]) -> Result<Vec<String>, NoMemory> 
 }
 
 /// A call with these words, whose script is read byte by byte.
-pub fn call(
+pub(crate) fn call(
     alloc: Global,
     texts: &[&str],
     disk: MemDisk,
@@ -41,7 +28,7 @@ pub fn call(
 }
 
 /// A run of a script on a disk, with a sink.
-pub fn run(
+pub(crate) fn run(
     alloc: Global,
     disk: MemDisk,
     script: &[u8],
@@ -50,8 +37,15 @@ pub fn run(
     call(alloc, &["ccfs", "run", "A", "S"], disk, script, out)
 }
 
+/// The status of `tree` on a disk, and what it wrote.
+pub(crate) fn print(alloc: Global, disk: MemDisk) -> Result<(u8, MemSink), NoMemory> {
+    let mut out = MemSink::new(alloc, None);
+    let ended = call(alloc, &["ccfs", "tree", "A"], disk, b"", &mut out)?;
+    Ok((ended.status, out))
+}
+
 /// The image that `mkfs` makes with so many blocks and inodes, of an empty disk.
-pub fn made(alloc: Global, blocks: &str, inodes: &str) -> Result<MemDisk, NoMemory> {
+pub(crate) fn made(alloc: Global, blocks: &str, inodes: &str) -> Result<MemDisk, NoMemory> {
     let mut out = MemSink::new(alloc, None);
     let disk = MemDisk::new(alloc, 0)?;
     let words = ["ccfs", "mkfs", "A", blocks, inodes];
@@ -60,13 +54,19 @@ pub fn made(alloc: Global, blocks: &str, inodes: &str) -> Result<MemDisk, NoMemo
 }
 
 /// The image that `mkfs A 512 32` makes of an empty disk.
-pub fn fresh(alloc: Global) -> Result<MemDisk, NoMemory> {
+pub(crate) fn fresh(alloc: Global) -> Result<MemDisk, NoMemory> {
     made(alloc, "512", "32")
 }
 
-/// Whether a sink holds these bytes from a place on.
-pub fn holds_at(out: &MemSink, place: usize, bytes: &[u8]) -> bool {
-    out.held()
-        .get(place..)
-        .is_some_and(|rest| rest.starts_with(bytes))
+/// A disk in which these places have these bytes, all stable.
+pub(crate) fn spoilt(alloc: Global, disk: MemDisk, places: &[(u64, u8)]) -> Result<MemDisk, Fail> {
+    let mut disk = disk;
+    for (place, byte) in places {
+        if *place >= disk.known_size() {
+            return Err("the place is behind the end".into());
+        }
+        disk.write_at(*place, &[*byte])?;
+    }
+    disk.sync()?;
+    Ok(disk.image(alloc, 0)?)
 }
