@@ -1,0 +1,6 @@
+pub mod Trees
+pub mod Sizes
+pub mod Found
+pub mod Lines
+pub mod Asked
+pub mod Cuts
