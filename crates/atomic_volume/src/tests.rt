@@ -8,28 +8,34 @@ use std::alloc::Global;
 use std::process::Abort;
 use std::test::Fail;
 
-#[test]
-fn an_image_without_open_gates_is_its_volume(rt: HostRuntime) -> Result<(), Fail> {
-    let mut disk = image_of(
-        rt.alloc(),
-        &[
-            (RECORDS[0], &[0xA5; 64]),
-            (VOLUME - 1, &[0xFF, 1, 2]),
-            (VOLUME + VOLUME_SIZE - 1, &[3]),
-        ],
-    )?;
-    assert_eq!(rt; refusal(&rt, rt.alloc(), &mut disk)?, None);
-    let looked = look_at(rt.alloc(), &mut disk)?;
+/// An image with these parts opens to a volume that begins with `front` and ends with `end`, and has this last number.
+fn assert_opens(
+    rt: &impl Abort,
+    alloc: Global,
+    parts: &[Part<'_>],
+    front: &[u8],
+    end: u8,
+    last: Option<u64>,
+) -> Result<(), Fail> {
+    let mut disk = image_of(alloc, parts)?;
+    assert_eq!(rt; refusal(rt, alloc, &mut disk)?, None);
+    let looked = look_at(alloc, &mut disk)?;
     assert_eq!(rt; looked.bytes.len() as u64, VOLUME_SIZE);
-    assert_eq!(rt; looked.bytes.all().starts_with(&[1, 2, 0]), true);
-    assert_eq!(rt; looked.bytes.all().last(), Some(&3));
-    assert_eq!(rt; looked.last, None);
+    assert_eq!(rt; looked.bytes.all().starts_with(front), true);
+    assert_eq!(rt; looked.bytes.all().last(), Some(&end));
+    assert_eq!(rt; looked.last, last);
     assert_eq!(rt; [looked.geometry.blocks, looked.geometry.inodes], [512, 32]);
     Ok(())
 }
 
 #[test]
-fn the_later_of_two_overlapping_ranges_counts(rt: HostRuntime) -> Result<(), Fail> {
+fn a_volume_is_its_area_with_the_open_batches_put_on_it(rt: HostRuntime) -> Result<(), Fail> {
+    let none: [Part<'_>; 3] = [
+        (RECORDS[0], &[0xA5; 64]),
+        (VOLUME - 1, &[0xFF, 1, 2]),
+        (VOLUME + VOLUME_SIZE - 1, &[3]),
+    ];
+    assert_opens(&rt, rt.alloc(), &none, &[1, 2, 0], 3, None)?;
     let records = batches_bytes(
         rt.alloc(),
         &[
@@ -37,23 +43,13 @@ fn the_later_of_two_overlapping_ranges_counts(rt: HostRuntime) -> Result<(), Fai
             (8, &[(4, &[3, 3]), (VOLUME_SIZE - 1, &[9])]),
         ],
     )?;
-    let mut disk = image_of(
-        rt.alloc(),
-        &[
-            (GATES[0], &[0xA5, 0xA5]),
-            (RECORDS[0], records.all()),
-            (VOLUME, &[5; 8]),
-        ],
-    )?;
-    assert_eq!(rt; refusal(&rt, rt.alloc(), &mut disk)?, None);
-    let looked = look_at(rt.alloc(), &mut disk)?;
-    assert_eq!(rt;
-        looked.bytes.all().starts_with(&[5, 5, 1, 2, 3, 3, 5, 5, 0]),
-        true
-    );
-    assert_eq!(rt; looked.bytes.all().last(), Some(&9));
-    assert_eq!(rt; looked.last, Some(8));
-    Ok(())
+    let overlapping: [Part<'_>; 3] = [
+        (GATES[0], &[0xA5, 0xA5]),
+        (RECORDS[0], records.all()),
+        (VOLUME, &[5; 8]),
+    ];
+    let front = [5, 5, 1, 2, 3, 3, 5, 5, 0];
+    assert_opens(&rt, rt.alloc(), &overlapping, &front, 9, Some(8))
 }
 
 /// Three batches, of which the gates of half 0 count some, and all gates and two batches of half 1. The volume has this last
@@ -70,35 +66,13 @@ fn assert_counted(
     let third: [Part<'_>; 1] = [(2, &[3])];
     let records = batches_bytes(alloc, &[(7, &first), (8, &second), (9, &third)])?;
     let others = batches_bytes(alloc, &[(8, &second), (9, &third)])?;
-    let mut disk = image_of(
-        alloc,
-        &[
-            (GATES[0], gates),
-            (GATES[1], &[0xA5; 64]),
-            (RECORDS[0], records.all()),
-            (RECORDS[1], others.all()),
-        ],
-    )?;
-    assert_eq!(rt; refusal(rt, alloc, &mut disk)?, None);
-    let looked = look_at(alloc, &mut disk)?;
-    assert_eq!(rt; looked.last, last);
-    assert_eq!(rt; looked.bytes.all().starts_with(bytes), true);
-    Ok(())
-}
-
-#[test]
-fn batches_behind_a_closed_gate_and_those_of_half_1_do_not_count(
-    rt: HostRuntime,
-) -> Result<(), Fail> {
-    for (gates, last, bytes) in [
-        ([0, 0xA5, 0xA5], None, [0, 0, 0]),
-        ([0xA5, 0xA4, 0xA5], Some(7), [1, 0, 0]),
-        ([0xA5, 0xA5, 0], Some(8), [1, 2, 0]),
-        ([0xA5, 0xA5, 0xA5], Some(9), [1, 2, 3]),
-    ] {
-        assert_counted(&rt, rt.alloc(), &gates, last, &bytes)?;
-    }
-    Ok(())
+    let parts: [Part<'_>; 4] = [
+        (GATES[0], gates),
+        (GATES[1], &[0xA5; 64]),
+        (RECORDS[0], records.all()),
+        (RECORDS[1], others.all()),
+    ];
+    assert_opens(rt, alloc, &parts, bytes, 0, last)
 }
 
 /// Two batches of these numbers, both open, are refused with this.
@@ -116,7 +90,15 @@ fn assert_numbers(
 }
 
 #[test]
-fn numbers_go_on_at_0(rt: HostRuntime) -> Result<(), Fail> {
+fn batches_count_up_to_a_closed_gate_with_numbers_in_a_row(rt: HostRuntime) -> Result<(), Fail> {
+    for (gates, last, bytes) in [
+        ([0, 0xA5, 0xA5], None, [0, 0, 0]),
+        ([0xA5, 0xA4, 0xA5], Some(7), [1, 0, 0]),
+        ([0xA5, 0xA5, 0], Some(8), [1, 2, 0]),
+        ([0xA5, 0xA5, 0xA5], Some(9), [1, 2, 3]),
+    ] {
+        assert_counted(&rt, rt.alloc(), &gates, last, &bytes)?;
+    }
     for (first, second, refused) in [
         (u64::MAX, 0, None),
         (7, 8, None),
@@ -143,8 +125,29 @@ fn assert_batch(
     Ok(())
 }
 
+/// A batch with one range of so many bytes.
+fn long_batch(alloc: Global, len: usize) -> Result<Bytes, Fail> {
+    let bytes = vec![in alloc; 6; len]?;
+    let ranges: [Part<'_>; 1] = [(1, &bytes)];
+    Ok(batches_bytes(alloc, &[(7, &ranges)])?)
+}
+
+/// An image with these gates and a batch of so many bytes is refused with this.
+fn assert_long(
+    rt: &impl Abort,
+    alloc: Global,
+    gates: &[u8],
+    len: usize,
+    refused: Option<VolumeFault>,
+) -> Result<(), Fail> {
+    let records = long_batch(alloc, len)?;
+    let parts: [Part<'_>; 2] = [(GATES[0], gates), (RECORDS[0], records.all())];
+    assert_eq!(rt; refusal_of(rt, alloc, &parts)?, refused, "{len}");
+    Ok(())
+}
+
 #[test]
-fn each_way_to_break_the_format_is_refused(rt: HostRuntime) -> Result<(), Fail> {
+fn each_way_to_break_the_format_is_refused_with_its_block(rt: HostRuntime) -> Result<(), Fail> {
     let end = VOLUME_SIZE.to_le_bytes();
     let last_byte = (VOLUME_SIZE - 1).to_le_bytes();
     let zero = [0; 8];
@@ -168,32 +171,6 @@ fn each_way_to_break_the_format_is_refused(rt: HostRuntime) -> Result<(), Fail> 
         let case = [count, records, off[0], len];
         assert_batch(&rt, rt.alloc(), &batch, refused, case)?;
     }
-    Ok(())
-}
-
-/// A batch with one range of so many bytes.
-fn long_batch(alloc: Global, len: usize) -> Result<Bytes, Fail> {
-    let bytes = vec![in alloc; 6; len]?;
-    let ranges: [Part<'_>; 1] = [(1, &bytes)];
-    Ok(batches_bytes(alloc, &[(7, &ranges)])?)
-}
-
-/// An image with these gates and a batch of so many bytes is refused with this.
-fn assert_long(
-    rt: &impl Abort,
-    alloc: Global,
-    gates: &[u8],
-    len: usize,
-    refused: Option<VolumeFault>,
-) -> Result<(), Fail> {
-    let records = long_batch(alloc, len)?;
-    let parts: [Part<'_>; 2] = [(GATES[0], gates), (RECORDS[0], records.all())];
-    assert_eq!(rt; refusal_of(rt, alloc, &parts)?, refused, "{len}");
-    Ok(())
-}
-
-#[test]
-fn a_broken_batch_is_named_with_its_block(rt: HostRuntime) -> Result<(), Fail> {
     for (len, block) in [
         (4067, 4),
         (4068, 5),
@@ -205,10 +182,5 @@ fn a_broken_batch_is_named_with_its_block(rt: HostRuntime) -> Result<(), Fail> {
         assert_long(&rt, rt.alloc(), &[0xA5], len, None)?;
         assert_long(&rt, rt.alloc(), &[0xA5, 0xA5], len, bad_journal(1, block))?;
     }
-    Ok(())
-}
-
-#[test]
-fn a_batch_past_the_end_of_the_area_is_refused(rt: HostRuntime) -> Result<(), Fail> {
     assert_long(&rt, rt.alloc(), &[0xA5], 524_261, bad_journal(0, 4))
 }
