@@ -37,7 +37,7 @@ module _ {X : Type 0} (d : Ghosts X) (x : X) (g : Geometry) (half : Half) (bytes
       stays_shown d g half bytes front first k (settled_shows g half bytes at_hand front first k s.settled s.last) x s.sound k (k + 1) (omega arith) (omega arith) earlier only_now
 
   -- where a checkpoint is done, or a part of it, its cut, too: at home the tree is the same, and no last number speaks against it
-  pub room_shown : (y : X) → LeavesBy d x y (IsMoved (d.may_leave x)) → LeavesBy d x y (ShowsOneOf front first k (k + 1))
+  pub room_shown : (y : X) → LeavesBy d x y (IsMoved (contents_by g half bytes) (d.may_leave x)) → LeavesBy d x y (ShowsOneOf front first k (k + 1))
   room_shown y way =
       moved_shown d g half bytes front first k (settled_shows g half bytes at_hand front first k s.settled s.last) x s.sound y k (k + 1) (omega arith) (omega arith)
       (contents_show (at_home (contents_by g half bytes)) (cut_tree front k) front.inodes (further first k) s.settled.carried s.settled.number refl) way
@@ -55,7 +55,7 @@ pub commit_left : {X : Type 0} (d : Ghosts X) (x m y : X) (g g' : Geometry) (hal
     → Stands d x g half bytes at_hand front first k → IsKept front.sizes front.opening front.inodes front.entries → k < seals_of front
     → g' ≡ g → bytes' ≡ bytes → journal_of half' ≡ journal_for (journal_of half) size → ((c : List ℕ) → d.may_leave m c → Holds g' half' bytes' c)
     → b ≡ next_batch at_hand front first k → hand ≡ metadata_after at_hand (recs_at front k) (further first (k + 1))
-    → LeavesBy d x m (IsMoved (d.may_leave x)) → LeavesBy d m y (AllOrNothing (contents_by g' half' bytes') b (d.may_leave m)) → LeavesBy d x y (ShowsOneOf front first k (k + 1))
+    → LeavesBy d x m (IsMoved (contents_by g half bytes) (d.may_leave x)) → LeavesBy d m y (AllOrNothing (contents_by g' half' bytes') b (d.may_leave m)) → LeavesBy d x y (ShowsOneOf front first k (k + 1))
 commit_left d x m y g g' half half' bytes bytes' at_hand hand front first k size b s kept more same_g same roomy sound next after moved way =
     let there = settled_at g g' bytes bytes' at_hand front front first first k k same_g same refl refl refl s.settled in
     let last : is_last (journal_of half').last (further first k) ≡ true =

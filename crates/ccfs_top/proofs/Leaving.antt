@@ -1,5 +1,5 @@
 -- What a crash leaves on a session's way.
-use Rattle.std.proofs.Common.{◌≡◌, inl, ⊎_elim, ℕ, ◌+◌, ◌≤◌, List, option_map, refl, ap, ◌∙◌, arith}
+use Rattle.std.proofs.Common.{◌≡◌, inl, ⊎_elim, ℕ, ◌+◌, ◌≤◌, List, refl, ap, ◌∙◌, arith}
 use Rattle.std.specs.declared.option.Option.TheVariants.{Some}
 use Rattle.disk_model.specs.declared.disk.Disk.{Ghosts}
 use Rattle.disk_model.proofs.Runs.{elapses_start, elapses_join, each_join}
@@ -7,6 +7,7 @@ use Rattle.block_layout.specs.declared.geometry.Geometry.{Geometry}
 use Rattle.gate_journal.specs.declared.batches.Batch.{Batch}
 use Rattle.gate_journal.specs.declared.halves.Half.{Half}
 use Rattle.gate_journal.specs.Runs.{LeavesBy}
+use Rattle.atomic_volume.specs.Opening.{Contents}
 use Rattle.atomic_volume.specs.Held.{contents_by, Holds}
 use Rattle.atomic_volume.specs.Commits.{committed, AllOrNothing}
 use Rattle.atomic_volume.specs.Homing.{at_home, IsMoved}
@@ -29,11 +30,11 @@ pub leaves_wider : {X : Type 0} (d : Ghosts X) (a b : X) (P Q : List ℕ → Typ
 leaves_wider d a b P Q so run = record { time = run.time; each = λ c left. so c (run.each c left) }
 
 -- where nothing is done
-pub stays_moved : {X : Type 0} (d : Ghosts X) (x : X) → ((s t : ℕ) (c : List ℕ) → s ≤ t → d.left_since x t c → d.left_since x s c) → ((c : List ℕ) → d.left_since x (d.moment x) c → d.may_leave x c)
-    → LeavesBy d x x (IsMoved (d.may_leave x))
-stays_moved d x earlier only_now = record {
+pub stays_moved : {X : Type 0} (d : Ghosts X) (x : X) (contents : Contents) → ((s t : ℕ) (c : List ℕ) → s ≤ t → d.left_since x t c → d.left_since x s c) → ((c : List ℕ) → d.left_since x (d.moment x) c → d.may_leave x c)
+    → LeavesBy d x x (IsMoved contents (d.may_leave x))
+stays_moved d x contents earlier only_now = record {
   time = elapses_start d.moment d.left_since x earlier;
-  each = λ c left. (c, only_now c left, inl refl);
+  each = λ c left. inl (c, only_now c left, refl);
 }
 
 -- ---- images that show a cut
@@ -59,17 +60,17 @@ module _ {X : Type 0} (d : Ghosts X) (g : Geometry) (h : Half) (bytes : List ℕ
 
   -- where a checkpoint is done, or a part of it, that cut
   pub moved_shown : (y : X) (least most : ℕ) → least ≤ k → k ≤ most → picture_shown (at_home (contents_by g h bytes)) ≡ Some (further first k, picture (cut_tree front k))
-      → LeavesBy d x y (IsMoved (d.may_leave x)) → LeavesBy d x y (ShowsOneOf front first least most)
+      → LeavesBy d x y (IsMoved (contents_by g h bytes) (d.may_leave x)) → LeavesBy d x y (ShowsOneOf front first least most)
   moved_shown y least most low high home way = record {
     time = way.time;
-    each = λ c left. let from = way.each c left in record {
+    each = λ c left. record {
       cut = k;
       enough = low;
       few = high;
       shows = ⊎_elim
-          (λ same. shows_to c (contents_by g h bytes) (further first k, picture (cut_tree front k)) (same ∙ (sound from.0 from.1).opens) shows)
-          (λ moved. shows_to c (at_home (contents_by g h bytes)) (further first k, picture (cut_tree front k)) (moved ∙ ap (option_map at_home) (sound from.0 from.1).opens) home)
-          from.2;
+          (λ was. shows_to c (contents_by g h bytes) (further first k, picture (cut_tree front k)) (was.2 ∙ (sound was.0 was.1).opens) shows)
+          (λ moved. shows_to c (at_home (contents_by g h bytes)) (further first k, picture (cut_tree front k)) moved home)
+          (way.each c left);
     };
   }
 

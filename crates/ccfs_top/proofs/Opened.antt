@@ -10,7 +10,8 @@ use Rattle.gate_journal.specs.Runs.{Quiet}
 use Rattle.tree_model.specs.Rows.{Rows}
 use Rattle.recovery.specs.declared.fault.OpenFault.{OpenFault}
 use Rattle.recovery.specs.declared.fault.OpenFault.TheVariants as open_fault
-use Rattle.recovery.specs.Opens.{IsOnTheWay, IsRefused, Finds}
+use Rattle.recovery.specs.Opens.{IsOnTheWay, IsRefused, IsFoundBad, Finds}
+use Rattle.image_check.specs.declared.kinds.BadImage.{BadImage}
 use Rattle.recovery.specs.Bad.{Says}
 use Rattle.recovery.specs.Recovering.{recovered_for_now, pictured}
 use Rattle.ccfs_top.specs.Images.{Image}
@@ -43,20 +44,28 @@ kept_opened d old mid new image calls lines home small found each kept =
     }
 
 -- a disk that an opening refused
-quiet_left : {X : Type 0} (d : Ghosts X) (old new : X) (found : List ℕ) (fault : OpenFault) → Quiet d old new → LeftBy d old new found fault
-quiet_left d old new found open_fault.Device quiet = inl quiet
-quiet_left d old new found (open_fault.Bad bad) quiet = quiet
-quiet_left d old new found open_fault.NoMemory quiet = inl quiet
-
-pub shut_by : {X : Type 0} (d : Ghosts X) (old new : X) (fault : OpenFault) → IsRefused d old fault
+pub shut_by : {X : Type 0} (d : Ghosts X) (old new : X) (fault : OpenFault) → IsRefused d old fault → ((bad : BadImage) → fault ≡ open_fault.Bad bad → IsFoundBad d old new bad)
     → (Quiet d old new ⊎ (fault ≡ open_fault.Device) × ((home : Contents) × ((p : ℕ × Rows) × Finds d old new home p))) → IsShut d old new fault
-shut_by d old new fault was (inl quiet) = record {
+shut_by d old new open_fault.Device was bad (inl quiet) = record {
   found = was.contents;
   from_start = record { from_start = was.one_of_them; as_seen = was.as_seen };
-  says = was.says;
-  left = quiet_left d old new was.contents fault quiet;
+  says = tt;
+  left = inl quiet;
 }
-shut_by d old new fault was (inr more) =
+shut_by d old new (open_fault.Bad b) was bad (inl quiet) =
+    let f = bad b refl in record {
+      found = d.seen new;
+      from_start = record { from_start = f.settled.one_of_them; as_seen = f.settled.as_seen };
+      says = f.is;
+      left = record { quiet = quiet; settled = f.settled; same = refl };
+    }
+shut_by d old new open_fault.NoMemory was bad (inl quiet) = record {
+  found = was.contents;
+  from_start = record { from_start = was.one_of_them; as_seen = was.as_seen };
+  says = tt;
+  left = inl quiet;
+}
+shut_by d old new fault was bad (inr more) =
     let f = more.1.1.1 in record {
       found = f.contents;
       from_start = record { from_start = f.one_of_them; as_seen = f.as_seen };

@@ -11,6 +11,7 @@ use Rattle.tree_model.specs.Picture.{picture}
 use Rattle.history_model.specs.Histories.{start, seal_count, tree_at, durable}
 use Rattle.script_text.specs.declared.scripts.Call.{Call}
 use Rattle.gate_journal.specs.Runs.{LeavesBy, Quiet}
+use Rattle.atomic_volume.specs.Opened.{IsSettled}
 use Rattle.atomic_volume.specs.Opening.{Contents}
 use Rattle.recovery.specs.Opens as opens
 use Rattle.recovery.specs.Bad.{Says}
@@ -62,10 +63,16 @@ pub record Homed {X : Type 0} (d : Ghosts X) (old new : X) (found : List ℕ) : 
 abbrev pub Unopened : {X : Type 0} → Ghosts X → X → X → List ℕ → ℕ → Type 0
 Unopened d old new found code = Quiet d old new ⊎ (IsDiskEnd code × Homed d old new found)
 
+-- A run left a bad image as it was: it only read, and the disk holds what was found, in no doubt, so that a crash leaves that alone.
+pub record Unmoved {X : Type 0} (d : Ghosts X) (old new : X) (found : List ℕ) : Type 0 where
+  pub quiet : Quiet d old new
+  pub settled : IsSettled d old new
+  pub same : d.seen new ≡ found
+
 -- what a refusal leaves: only of a good image it can be more than readings
 abbrev pub LeftBy : {X : Type 0} → Ghosts X → X → X → List ℕ → OpenFault → Type 0
 LeftBy d old new found open_fault.Device = Unopened d old new found 7
-LeftBy d old new found (open_fault.Bad bad) = Quiet d old new
+LeftBy d old new found (open_fault.Bad bad) = Unmoved d old new found
 LeftBy d old new found open_fault.NoMemory = Unopened d old new found 9
 
 -- A disk that wasn't opened: what was found on it, which is bad as the fault says, and what is left.
@@ -78,7 +85,7 @@ pub record IsShut {X : Type 0} (d : Ghosts X) (old new : X) (fault : OpenFault) 
 -- what a run leaves that ends with this status, by what it found; so many whole reply lines were written
 abbrev pub Leaves : {X : Type 0} → Ghosts X → X → X → List Call → List ℕ → Finding Image → ℕ → ℕ → Type 0
 Leaves d old new calls found (Holds image) code lines = Kept d old new image calls lines
-Leaves d old new calls found (Spoilt kind block) code lines = Quiet d old new
+Leaves d old new calls found (Spoilt kind block) code lines = Unmoved d old new found
 Leaves d old new calls found Unread code lines = Unopened d old new found code
 
 -- A stop of a run: what was expected has it, so many whole reply lines were written, and so much is left then.

@@ -21,7 +21,7 @@ pub fn make_image<D: Disk, K: Sink>(
     out: &mut K,
 ) -> Result<(), Stop>
     requires { 64 * 2 ^ 20 ≤ D.most }
-    ensures new { D.tells → D.in_doubt disk.old ≡ false → OnOk result (IsNew D.Disk disk.new geometry.now.blocks geometry.now.inodes) }
+    ensures new { D.tells → OnOk result (IsNew D.Disk disk.new geometry.now.blocks geometry.now.inodes) }
     ensures text { K.tells → OnOk result (K.held out.new ≡ K.held out.old ++ (fresh geometry.now.blocks geometry.now.inodes).last) }
     ensures grew { K.tells → IfErr result (λ stop. Grew (fresh geometry.now.blocks geometry.now.inodes) stop 0 (K.held out.old) (K.held out.new)) }
     ensures fault { IfErr result (λ stop. IsFaultStop stop) }

@@ -5,6 +5,7 @@ ghost use Rattle.ccfs_base.specs.Fits.{fits_command};
 ghost use Rattle.gate_journal.specs.Batches.{batch_bytes};
 ghost use Rattle.gate_journal.specs.Halves.{size_of, journal_of, MayFollow};
 ghost use Rattle.gate_journal.specs.Runs.{LeavesBy};
+ghost use Rattle.atomic_volume.specs.Held.{contents_by};
 ghost use Rattle.atomic_volume.specs.Homing.{IsMoved};
 ghost use Rattle.image_model.specs.Checks.{is_last};
 ghost use Rattle.front_laws.specs.Batches.{batch_at};
@@ -68,7 +69,7 @@ fn make_room<D: Disk>(volume: &mut Volume<D>, batch: &Batch) -> Result<(), StepF
     ensures bytes { volume.new.volume.items ≡ volume.old.volume.items }
     ensures journal { OnOk result (journal_of volume.new.half ≡ journal_for (journal_of volume.old.half) (length (batch_bytes batch.now))) }
     ensures working { OnOk result (volume.new.failed ≡ false) }
-    ensures any_moment { D.tells → LeavesBy D.Disk volume.old.disk volume.new.disk (IsMoved (D.may_leave volume.old.disk)) }
+    ensures any_moment { D.tells → LeavesBy D.Disk volume.old.disk volume.new.disk (IsMoved (contents_by volume.old.geometry volume.old.half volume.old.volume.items) (D.may_leave volume.old.disk)) }
     ensures later { D.faults volume.old.disk ≤ D.faults volume.new.disk }
     ensures device { IfErr result (λ fault. fault ≡ StepFault.Device) }
     ensures rose { OnErr result (Rose (D.faults volume.old.disk) (D.faults volume.new.disk)) }

@@ -112,7 +112,7 @@ fn mkfs<D: Disk, K: Sink>(alloc: Global, disk: D, geometry: &Geometry, out: &mut
     ensures statuses { IsMadeStatus result.status }
     ensures ends { EndsWith (fresh geometry.now.blocks geometry.now.inodes) 0 result.status result.batches }
     ensures wrote { K.tells → Wrote (fresh geometry.now.blocks geometry.now.inodes) (Rose (K.faults out.old) (K.faults out.new)) 0 result.status (K.held out.old) (K.held out.new) }
-    ensures new { D.tells → D.in_doubt disk ≡ false → result.status ≡ 0 → IsNew D.Disk result.disk geometry.now.blocks geometry.now.inodes }
+    ensures new { D.tells → result.status ≡ 0 → IsNew D.Disk result.disk geometry.now.blocks geometry.now.inodes }
     ensures no_batches { result.batches ≡ 0 }
     ensures sink_fault { result.status ≡ 6 → Rose (K.faults out.old) (K.faults out.new) }
     ensures disk_fault { result.status ≡ 7 → Rose (D.faults disk) (D.faults result.disk) }
@@ -170,7 +170,7 @@ pub fn shell<D: Disk, S: Source, K: Sink>(
     // An image that is made.
     ensures made { (blocks inodes : ℕ) → asked_by words.now ≡ Some (Mkfs blocks inodes) → EndsWith (fresh blocks inodes) 0 result.status result.batches
         × (K.tells → Wrote (fresh blocks inodes) (Rose (K.faults out.old) (K.faults out.new)) 0 result.status (K.held out.old) (K.held out.new)) }
-    ensures new { (blocks inodes : ℕ) → asked_by words.now ≡ Some (Mkfs blocks inodes) → D.tells → D.in_doubt disk ≡ false → result.status ≡ 0 → IsNew D.Disk result.disk blocks inodes }
+    ensures new { (blocks inodes : ℕ) → asked_by words.now ≡ Some (Mkfs blocks inodes) → D.tells → result.status ≡ 0 → IsNew D.Disk result.disk blocks inodes }
     // A script that is run: what was found, how the run ended, what a crash leaves, and what was written.
     ensures ran { asked_by words.now ≡ Some Run → S.tells → D.tells
         → Ran D.Disk disk result.disk (S.left script.old) K.tells (Rose (K.faults out.old) (K.faults out.new)) result.status result.batches (K.held out.old) (K.held out.new) }

@@ -6,11 +6,11 @@ use Rattle.ccfs_top.proofs.Ending.{part_of_line}
 use Rattle.ccfs_top.proofs.mkfs.make_image.Goals as goal
 
 pub returns-in-Ok-write_all-clause-new : goal.returns-in-Ok-write_all-clause-new
-returns-in-Ok-write_all-clause-new g c = λ told settled. record {
+returns-in-Ok-write_all-clause-new g c = λ told. record {
   geometry = c.args.geometry.now;
   blocks_are = refl;
   inodes_are = refl;
-  fresh = c.in-Ok.ensures.fresh told settled;
+  fresh = c.in-Ok.ensures.fresh told;
   stable = c.in-Ok.ensures.stable told;
 }
 

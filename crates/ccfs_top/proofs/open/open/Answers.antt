@@ -83,7 +83,7 @@ returns-in-Ok-front_on-clause-last g c = ap (λ (j : Journal). is_last j.last c.
 pub returns-in_err-opened-clause-shut : goal.returns-in_err-opened-clause-shut
 returns-in_err-opened-clause-shut g c = λ told.
     let p = err_from_is_err_and c.from_residual.result c.from_residual.ensures.1 in
-    rw (p.1, p.2) (shut_by g.D.Disk c.args.disk _ _ (c.in_err-opened.ensures.refuses told) (c.in_err-opened.ensures.left told))
+    rw (p.1, p.2) (shut_by g.D.Disk c.args.disk _ _ (c.in_err-opened.ensures.refuses told) (c.in_err-opened.ensures.bad told) (c.in_err-opened.ensures.left told))
 
 pub returns-in-Ok-front_on-clause-small : goal.returns-in-Ok-front_on-clause-small
 returns-in-Ok-front_on-clause-small g c = let t = rw c.in_ok-opened.was at c.open.type_inv in omega (arith, t)

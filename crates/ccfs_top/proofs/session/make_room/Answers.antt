@@ -1,6 +1,7 @@
 use Rattle.std.proofs.Common.{length}
 use Rattle.gate_journal.specs.Batches.{batch_bytes}
 use Rattle.gate_journal.specs.Halves.{size_of, journal_of}
+use Rattle.atomic_volume.specs.Held.{contents_by}
 use Rattle.ccfs_top.proofs.Rooms.{stays_for, emptied_for, is_full}
 use Rattle.ccfs_top.proofs.Leaving.{stays_moved}
 use Rattle.ccfs_top.proofs.session.make_room.Goals as goal
@@ -13,7 +14,7 @@ returns-then-accepts-clause-journal g c =
 pub returns-then-accepts-clause-any_moment : goal.returns-then-accepts-clause-any_moment
 returns-then-accepts-clause-any_moment g c = λ told.
     let v = c.args.volume.now in
-    stays_moved g.D.Disk v.disk (g.met.D.Disk.earlier told v.disk) (g.met.D.Disk.only_now told v.disk)
+    stays_moved g.D.Disk v.disk (contents_by v.geometry v.half v.volume.items) (g.met.D.Disk.earlier told v.disk) (g.met.D.Disk.only_now told v.disk)
 
 pub returns-in-Ok-clause-journal : goal.returns-in-Ok-clause-journal
 returns-in-Ok-clause-journal g c =

@@ -7,7 +7,7 @@ use Rattle.ccfs_top.proofs.Closing.{wrote_stop, ends_made, ends_done, fault_stat
 use Rattle.ccfs_top.proofs.top.mkfs.Goals as goal
 
 pub returns-in-Ok-clause-new : goal.returns-in-Ok-clause-new
-returns-in-Ok-clause-new g c = λ told settled _. c.in-Ok.ensures.new told settled
+returns-in-Ok-clause-new g c = λ told _. c.in-Ok.ensures.new told
 
 pub returns-in-Err-clause-wrote : goal.returns-in-Err-clause-wrote
 returns-in-Err-clause-wrote g c = λ told.

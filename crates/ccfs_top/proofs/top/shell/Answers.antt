@@ -6,10 +6,10 @@ use Rattle.ccfs_top.proofs.Shelling.{new_of, usage_of, usage_status, not_early}
 use Rattle.ccfs_top.proofs.top.shell.Goals as goal
 
 pub returns-in-Some-Mkfs-clause-new : goal.returns-in-Some-Mkfs-clause-new
-returns-in-Some-Mkfs-clause-new g c = λ blocks inodes is told settled done.
+returns-in-Some-Mkfs-clause-new g c = λ blocks inodes is told done.
     let geometry = c.in-Some-Mkfs.geometry in
     new_of g.D.Disk c.mkfs.result.disk (asked_by c.args.words.now) geometry.blocks geometry.inodes blocks inodes (c.in-Some-Mkfs.ensures ∙ ap (λ z. Some (asked_of z)) c.in-Some-Mkfs.field-0-is) is
-    (c.mkfs.ensures.new told settled done)
+    (c.mkfs.ensures.new told done)
 
 -- ---- by what the words ask for
 
