@@ -1,4 +1,4 @@
-//! Calls of the program on disks in memory, by their exact output, and what crashes leave of them. The crate has tests alone.
+//! Calls of the program on disks in memory, by their exact output. The crate has tests alone.
 #![tactic(auto)]
 
 #[cfg(test)]
@@ -15,7 +15,5 @@ mod many;
 mod playing;
 #[cfg(test)]
 mod scripts;
-#[cfg(test)]
-mod stops;
 #[cfg(test)]
 mod texts;

@@ -50,10 +50,3 @@ pub(crate) fn text_of(alloc: Global, parts: &[Part]) -> Result<Bytes, NoMemory> 
     }
     Ok(out)
 }
-
-/// The text of words.
-pub(crate) fn words_text(alloc: Global, text: &str) -> Result<Bytes, NoMemory> {
-    let mut out = Bytes::new(alloc);
-    append_words(&mut out, text, 0)?;
-    Ok(out)
-}
