@@ -148,15 +148,15 @@ fn a_batch_up_to_the_end_of_the_area_is_read_and_none_behind_it(
     rt: HostRuntime,
 ) -> Result<(), Fail> {
     for (half, block) in [(0, 132), (1, 260)] {
-        let at = usize::from(half);
+        let (gates, records) = (GATES[usize::from(half)], RECORDS[usize::from(half)]);
         let mut disk = zeros(rt.alloc(), DISK_SIZE)?;
-        put(&mut disk, GATES[at], &[0xA5])?;
-        put(&mut disk, RECORDS[at], &FULL)?;
+        put(&mut disk, gates, &[0xA5])?;
+        put(&mut disk, records, &FULL)?;
         let loaded = load(rt.alloc(), &mut disk, half, 524_260)?;
         assert_eq!(rt; loaded.replay_list().len(), 1);
         assert_eq!(rt; loaded.replay_list()[0].bytes.len(), 524_260);
         assert_eq!(rt; [loaded.fits(0), loaded.fits(1)], [true, false]);
-        put(&mut disk, GATES[at] + 1, &[0xA5])?;
+        put(&mut disk, gates + 1, &[0xA5])?;
         let loaded = load(rt.alloc(), &mut disk, half, 524_260);
         assert_eq!(rt;
             loaded.err(),

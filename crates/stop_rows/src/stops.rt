@@ -1,7 +1,6 @@
 //! Runs that lose power at a call on the disk: each image that a crash may leave is printed by the program itself, and opened.
-use super::calls::{fresh, made, print, run};
-use super::texts::Part::{Text, Turns};
-use super::texts::{Part, text_of, words_text};
+use super::calls::{fresh, print, run};
+use super::texts::words_text;
 use ccfs_base::{Bytes, MemSink};
 use disk_model::{CallKind, FailPlan, MemDisk};
 use std::alloc::Global;
@@ -9,13 +8,18 @@ use std::test::Fail;
 
 /// How many calls an opening of an image without open batches makes: a sync, the size, four reads, and as its checkpoint two
 /// writes with a sync behind each.
-const OPENING: u64 = 10;
+pub(crate) const OPENING: u64 = 10;
 
 /// How many calls the commit of a batch makes: its records and its gate, each with a sync behind it.
-const COMMIT: u64 = 4;
+pub(crate) const COMMIT: u64 = 4;
 
 /// How many images are looked at.
-const PICKS: u64 = 21;
+pub(crate) const PICKS: u64 = 21;
+
+/// How many of them are opened, too, and how many openings of these are stopped in turn.
+const OPENED_PICKS: u64 = 5;
+
+const STOPPED_PICKS: u64 = 4;
 
 /// The text of the tree of an image. The test fails where it holds none.
 fn tree_in(alloc: Global, image: MemDisk) -> Result<MemSink, Fail> {
@@ -37,8 +41,8 @@ fn opens_to(alloc: Global, image: MemDisk, tree: &[u8]) -> Result<(), Fail> {
     Ok(())
 }
 
-/// Whether the image of a pick has the second of two trees, else it has the first. The test fails where it has another, or opens
-/// to another.
+/// Whether the image of a pick has the second of two trees, else it has the first. The test fails where it has another, or is one
+/// of the first and opens to another.
 fn has_second(
     alloc: Global,
     disk: &MemDisk,
@@ -51,13 +55,20 @@ fn has_second(
     if !is_second && text.held() != first {
         return Err("an image has another tree".into());
     }
-    opens_to(alloc, disk.image(alloc, pick)?, text.held())?;
+    if pick < OPENED_PICKS {
+        opens_to(alloc, disk.image(alloc, pick)?, text.held())?;
+    }
     Ok(is_second)
 }
 
 /// How many of the images that may be left have the second of two trees, where all others have the first. The test fails where
 /// one has another, or opens to another.
-fn left(alloc: Global, disk: &MemDisk, first: &[u8], second: &[u8]) -> Result<u64, Fail> {
+pub(crate) fn left(
+    alloc: Global,
+    disk: &MemDisk,
+    first: &[u8],
+    second: &[u8],
+) -> Result<u64, Fail> {
     let mut count = 0u64;
     for pick in 0..PICKS {
         if has_second(alloc, disk, pick, first, second)? {
@@ -68,7 +79,7 @@ fn left(alloc: Global, disk: &MemDisk, first: &[u8], second: &[u8]) -> Result<u6
 }
 
 /// The disk after a run with this plan, which a device fault ends behind these lines.
-fn stopped(
+pub(crate) fn stopped(
     alloc: Global,
     disk: MemDisk,
     plan: FailPlan,
@@ -223,150 +234,58 @@ fn opening_stops_at(alloc: Global, image: &MemDisk, number: u64, tree: &[u8]) ->
     let plan = FailPlan::From { call: number };
     let disk = stopped(alloc, image.image(alloc, 0)?, plan, b"", b"")?;
     left(alloc, &disk, tree, tree)?;
-    for pick in 0..OPENING {
+    for pick in 0..STOPPED_PICKS {
         stops_again(alloc, &disk, pick, tree)?;
     }
     Ok(())
 }
 
-/// The image that a script leaves of another. The test fails where an opening of it, stopped at one of its calls, leaves another
-/// tree than this one.
-fn opening_stops(alloc: Global, image: MemDisk, row: &[&str; 2]) -> Result<MemDisk, Fail> {
-    let script = words_text(alloc, row[0])?;
-    let tree = words_text(alloc, row[1])?;
+/// The image that a run of a script leaves of another.
+fn left_by(alloc: Global, image: MemDisk, script: &str) -> Result<MemDisk, Fail> {
     let mut out = MemSink::new(alloc, None);
-    let image = run(alloc, image, script.all(), &mut out)?
-        .disk
-        .image(alloc, 0)?;
-    let calls = run(alloc, image.image(alloc, 0)?, b"", &mut out)?
-        .disk
-        .calls();
-    for number in 1..=calls {
+    let ended = run(alloc, image, words_text(alloc, script)?.all(), &mut out)?;
+    Ok(ended.disk.image(alloc, 0)?)
+}
+
+/// The test fails where an opening of the image that a script leaves, stopped at one of its calls, leaves another tree than this one.
+fn opening_stops(alloc: Global, image: MemDisk, row: &[&str; 2]) -> Result<(), Fail> {
+    let tree = words_text(alloc, row[1])?;
+    let image = left_by(alloc, image, row[0])?;
+    let mut out = MemSink::new(alloc, None);
+    let idle = run(alloc, image.image(alloc, 0)?, b"", &mut out)?;
+    for number in 1..=idle.disk.calls() {
         opening_stops_at(alloc, &image, number, tree.all())?;
     }
-    Ok(image)
-}
-
-/// Scripts, and the trees of the images that they leave: one without a batch, one with a batch in half 0, one with one in half 1.
-const OPENED: &[[&str; 2]] = &[
-    ["", "batches 0; dir / entries 0 changes 0;"],
-    [
-        "0 create /f; 0 streamsync;",
-        "batches 1; dir / entries 1 changes 1; file /f length 0 data -;",
-    ],
-    [
-        "0 rename /f /g; 0 streamsync;",
-        "batches 2; dir / entries 1 changes 3; file /g length 0 data -;",
-    ],
-];
-
-#[test]
-fn an_opening_that_stops_leaves_its_tree(rt: HostRuntime) -> Result<(), Fail> {
-    let mut image = fresh(rt.alloc())?;
-    for row in OPENED {
-        image = opening_stops(rt.alloc(), image, row)?;
-    }
     Ok(())
 }
 
-/// A script whose last sync finds no room in a half, as one row more passes its bytes.
-const LARGE: &[Part] = &[
-    Turns {
-        count: 3_072,
-        from: 1_000,
-        text: "0 create /@;",
-    },
-    Text("0 streamsync;"),
-    Turns {
-        count: 10,
-        from: 4_072,
-        text: "0 create /@;",
-    },
-    Text("0 streamsync; 0 create /4082; 0 streamsync;"),
+/// A script that leaves an image without a batch, and its tree.
+const EMPTY: [&str; 2] = ["", "batches 0; dir / entries 0 changes 0;"];
+
+/// One that leaves a batch in half 1, since the opening before it emptied that.
+const MADE: [&str; 2] = [
+    "0 create /f; 0 streamsync;",
+    "batches 1; dir / entries 1 changes 1; file /f length 0 data -;",
 ];
 
-/// What it says before that sync is answered.
-const LARGE_SAID: &[Part] = &[
-    Turns {
-        count: 3_072,
-        from: 0,
-        text: "0 ok;",
-    },
-    Text("0 ok 6;"),
-    Turns {
-        count: 10,
-        from: 0,
-        text: "0 ok;",
-    },
-    Text("0 ok 7; 0 ok;"),
+/// One that leaves a batch in half 0, on the image of the script before.
+const MOVED: [&str; 2] = [
+    "0 rename /f /g; 0 streamsync;",
+    "batches 2; dir / entries 1 changes 3; file /g length 0 data -;",
 ];
 
-const LARGE_CUTS: [&[Part]; 2] = [
-    &[
-        Text("batches 7; dir / entries 3082 changes 3082;"),
-        Turns {
-            count: 3_082,
-            from: 1_000,
-            text: "file /@ length 0 data -;",
-        },
-    ],
-    &[
-        Text("batches 8; dir / entries 3083 changes 3083;"),
-        Turns {
-            count: 3_083,
-            from: 1_000,
-            text: "file /@ length 0 data -;",
-        },
-    ],
-];
-
-/// How many calls come before its checkpoint, and how many ranges that writes home: five of a made row, and one of each batch.
-const BEFORE: u64 = OPENING + 7 * COMMIT;
-
-const HOME: u64 = 5 * 3_082 + 7;
-
-/// Where the run stops behind those calls, whether its last sync was answered, and in how many images its batch is at least and
-/// at most: at home writes; at the gates, a sync, the master byte and a sync; at the commit's four calls; and behind it.
-const STOPS: &[(u64, bool, u64, u64)] = &[
-    (1, false, 0, 0),
-    (2, false, 0, 0),
-    (HOME / 2, false, 0, 0),
-    (HOME, false, 0, 0),
-    (HOME + 1, false, 0, 0),
-    (HOME + 2, false, 0, 0),
-    (HOME + 3, false, 0, 0),
-    (HOME + 4, false, 0, 0),
-    (HOME + 5, false, 0, 0),
-    (HOME + 6, false, 0, 0),
-    (HOME + 7, false, 1, PICKS - 1),
-    (HOME + 8, false, 1, PICKS - 1),
-    (HOME + 9, true, PICKS, PICKS),
-];
-
-/// The test fails where the run that stops there leaves another tree.
-fn checkpoint_stops(alloc: Global, call: u64, is_synced: bool) -> Result<u64, Fail> {
-    let script = text_of(alloc, LARGE)?;
-    let mut said = text_of(alloc, LARGE_SAID)?;
-    if is_synced {
-        said.append(b"0 ok 8\n")?;
-    }
-    let plan = FailPlan::From {
-        call: BEFORE.saturating_add(call),
-    };
-    let disk = made(alloc, "1024", "4096")?;
-    let disk = stopped(alloc, disk, plan, script.all(), said.all())?;
-    let first = text_of(alloc, LARGE_CUTS[0])?;
-    let second = text_of(alloc, LARGE_CUTS[1])?;
-    left(alloc, &disk, first.all(), second.all())
+#[test]
+fn an_opening_of_an_empty_journal_that_stops_leaves_its_tree(rt: HostRuntime) -> Result<(), Fail> {
+    opening_stops(rt.alloc(), fresh(rt.alloc())?, &EMPTY)
 }
 
 #[test]
-fn a_checkpoint_that_stops_leaves_its_tree(rt: HostRuntime) -> Result<(), Fail> {
-    for (call, is_synced, least, most) in STOPS {
-        let count = checkpoint_stops(rt.alloc(), *call, *is_synced)?;
-        if count < *least || *most < count {
-            return Err("the batch is in too many images or too few".into());
-        }
-    }
-    Ok(())
+fn an_opening_of_half_1_that_stops_leaves_its_tree(rt: HostRuntime) -> Result<(), Fail> {
+    opening_stops(rt.alloc(), fresh(rt.alloc())?, &MADE)
+}
+
+#[test]
+fn an_opening_of_half_0_that_stops_leaves_its_tree(rt: HostRuntime) -> Result<(), Fail> {
+    let alloc = rt.alloc();
+    opening_stops(alloc, left_by(alloc, fresh(alloc)?, MADE[0])?, &MOVED)
 }
