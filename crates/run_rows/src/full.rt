@@ -3,6 +3,14 @@ use super::playing::{Row, Run, play};
 use super::texts::Part::{Text, Turns};
 use std::test::Fail;
 
+/// What a checkpoint writes beside the ranges: the gates of the other half and the master byte. An opening is one, too.
+const SWITCH: u64 = 4_096 + 1;
+
+/// The bytes of a batch of one made row with its gate, and of what its records put.
+const BATCH: u64 = 16 + 170 + 20 + 1;
+
+const PUT: u64 = 110 + 8;
+
 const BY_BYTES: &[Row] = &[
     Row {
         // 2,545 batches of 206 bytes have 524,270, and one more has no room.
@@ -28,7 +36,7 @@ const BY_BYTES: &[Row] = &[
                     text: "file /@ length 0 data -;",
                 },
             ],
-            written: None,
+            written: Some(SWITCH + 2_545 * BATCH + 2_545 * PUT + SWITCH + BATCH),
         }],
     },
     Row {
@@ -70,7 +78,7 @@ const BY_BYTES: &[Row] = &[
                     text: "file /@ length 0 data -;",
                 },
             ],
-            written: None,
+            written: Some(SWITCH + 524_192 + 7 + (3_082 * 110 + 7 * 8) + SWITCH + BATCH),
         }],
     },
 ];
