@@ -1,5 +1,5 @@
 //! An image that was found on a disk and checked.
-ghost use Rattle.std.specs.Prelude.{◌≡◌, ◌+◌, ◌-◌, ◌*◌, ◌≤◌, false, Some, List, ℕ, vec_len, IfOk, IfErr, MatchResult};
+ghost use Rattle.std.specs.Prelude.{◌≡◌, ◌+◌, ◌-◌, ◌*◌, ◌≤◌, false, Some, List, ℕ, vec_len, IfOk, IfErr, MatchResult, IsErrOf};
 ghost use Rattle.fault_counts.specs.Counts.{Rose, RisesBy};
 ghost use Rattle.block_layout.specs.Sizes.{block_size, volume_start};
 ghost use Rattle.gate_journal.specs.Batches.{range_bytes};
@@ -50,6 +50,8 @@ impl<D: Disk> Found<D> {
         ensures quiet { D.tells → MatchResult result (λ found. Quiet D.Disk disk found.disk) (λ refused. Quiet D.Disk disk refused.kept) }
         ensures device { IfErr result (λ refused. refused.fault ≡ Device → Rose (D.faults disk) (D.faults refused.kept)) }
         ensures later { MatchResult result (λ found. D.faults disk ≤ D.faults found.disk) (λ refused. D.faults disk ≤ D.faults refused.kept) }
+        ensures steady { IfOk result (λ found. D.faults found.disk ≡ D.faults disk) }
+        ensures calm { IfErr result (λ refused. (refused.fault ≡ Device → ⊥) → D.faults refused.kept ≡ D.faults disk) }
         ensures count { MatchResult result (λ found. D.written found.disk ≡ D.written disk) (λ refused. D.written refused.kept ≡ D.written disk) }
     {
         let mut disk = disk;
@@ -105,6 +107,7 @@ impl<D: Disk> Found<D> {
         ensures working { IfOk result (λ volume. volume.failed ≡ false) }
         ensures device { IfErr result (λ refused. (refused.fault ≡ Device) × Rose (D.faults self.disk) (D.faults refused.kept)) }
         ensures later { MatchResult result (λ volume. D.faults self.disk ≤ D.faults volume.disk) (λ refused. D.faults self.disk ≤ D.faults refused.kept) }
+        ensures steady { IfOk result (λ volume. D.faults volume.disk ≡ D.faults self.disk) }
         ensures count { MatchResult result (λ volume. RisesBy (range_bytes (journal_of self.half).ranges + 4097) (D.written self.disk) (D.written volume.disk)) (λ refused. RisesBy (range_bytes (journal_of self.half).ranges + 4097) (D.written self.disk) (D.written refused.kept)) }
     {
         let mut volume = Volume {
@@ -135,6 +138,7 @@ fn sync_and_read<D: Disk>(alloc: Global, disk: &mut D) -> Result<Image, VolumeFa
     ensures quiet { D.tells → Quiet D.Disk disk.old disk.new }
     ensures device { IfErr result (λ fault. fault ≡ Device → Rose (D.faults disk.old) (D.faults disk.new)) }
     ensures later { D.faults disk.old ≤ D.faults disk.new }
+    ensures steady { (IsErrOf result Device → ⊥) → D.faults disk.new ≡ D.faults disk.old }
     ensures count { D.written disk.new ≡ D.written disk.old }
 {
     disk.sync()?;

@@ -31,6 +31,7 @@ fn write_home<D: Disk>(disk: &mut D, ranges: &[Range]) -> Result<(), DiskFailed>
     requires small { D.known disk.old < 2 ^ 64 }
     ensures known { D.known disk.new ≡ D.known disk.old }
     ensures cause { HasCause (D.faults disk.old) (D.faults disk.new) result }
+    ensures steady { OnOk result (D.faults disk.new ≡ D.faults disk.old) }
     ensures count { RisesBy (range_bytes ranges.now) (D.written disk.old) (D.written disk.new) }
     ensures any_moment { D.tells → LeavesBy D.Disk disk.old disk.new (Comes (Scattered ranges.now) (D.may_leave disk.old)) }
     ensures put { D.tells → D.in_doubt disk.old ≡ false → OnOk result (D.seen disk.new ≡ put_home (D.seen disk.old) ranges.now) }
@@ -60,6 +61,7 @@ fn make_ready<D: Disk>(disk: &mut D, half: &Half) -> Result<Half, VolumeFault>
     ensures device { IfErr result (λ fault. (fault ≡ Device) × Rose (D.faults disk.old) (D.faults disk.new)) }
     ensures known { D.known disk.new ≡ D.known disk.old }
     ensures later { D.faults disk.old ≤ D.faults disk.new }
+    ensures steady { OnOk result (D.faults disk.new ≡ D.faults disk.old) }
     ensures count { RisesBy (range_bytes (journal_of half.now).ranges + 4096) (D.written disk.old) (D.written disk.new) }
 {
     write_home(disk, half.replay_list())?;
@@ -89,6 +91,7 @@ pub fn move_home<D: Disk>(disk: &mut D, half: &Half) -> Result<Half, VolumeFault
     ensures device { IfErr result (λ fault. (fault ≡ Device) × Rose (D.faults disk.old) (D.faults disk.new)) }
     ensures known { D.known disk.new ≡ D.known disk.old }
     ensures later { D.faults disk.old ≤ D.faults disk.new }
+    ensures steady { OnOk result (D.faults disk.new ≡ D.faults disk.old) }
     ensures count { RisesBy (range_bytes (journal_of half.now).ranges + 4097) (D.written disk.old) (D.written disk.new) }
 {
     let other = make_ready(disk, half)?;

@@ -1,5 +1,5 @@
 //! A volume that batches are committed to.
-ghost use Rattle.std.specs.Prelude.{◌≡◌, ◌⊎◌, ◌+◌, ◌-◌, ◌*◌, ◌≤◌, true, false, List, ℕ, length, vec_len, Some, Err, IfErr, OnOk, OnErr};
+ghost use Rattle.std.specs.Prelude.{◌≡◌, ◌⊎◌, ◌+◌, ◌-◌, ◌*◌, ◌≤◌, true, false, List, ℕ, length, vec_len, Some, Err, IfErr, OnOk, OnErr, IsErrOf};
 ghost use Rattle.fault_counts.specs.Counts.{Rose, RisesBy};
 ghost use Rattle.block_layout.specs.Sizes.{block_size, volume_start};
 ghost use Rattle.gate_journal.specs.Batches.{batch_bytes, range_bytes};
@@ -121,6 +121,8 @@ impl<D: Disk> Volume<D> {
         ensures working { OnOk result (self.new.failed ≡ false) }
         ensures faults { IfErr result (λ fault. (fault ≡ Device) × (self.new.failed ≡ true) × Rose (D.faults self.old.disk) (D.faults self.new.disk) ⊎ (fault ≡ NoMemory) × (self.new.failed ≡ false) × (self.new.disk ≡ self.old.disk)) }
         ensures later { D.faults self.old.disk ≤ D.faults self.new.disk }
+        ensures steady { (IsErrOf result Device → ⊥) → D.faults self.new.disk ≡ D.faults self.old.disk }
+        ensures settled { D.tells → (IsErrOf result Device → ⊥) → D.in_doubt self.new.disk ≡ false }
         ensures count { RisesBy (length (batch_bytes batch.now) + 1) (D.written self.old.disk) (D.written self.new.disk) }
     {
         match self.half.append(&mut self.disk, batch) {
@@ -152,6 +154,8 @@ impl<D: Disk> Volume<D> {
         ensures working { OnOk result (self.new.failed ≡ false) }
         ensures faults { IfErr result (λ fault. (fault ≡ Device) × (self.new.failed ≡ true) × Rose (D.faults self.old.disk) (D.faults self.new.disk)) }
         ensures later { D.faults self.old.disk ≤ D.faults self.new.disk }
+        ensures steady { OnOk result (D.faults self.new.disk ≡ D.faults self.old.disk) }
+        ensures settled { D.tells → OnOk result (D.in_doubt self.new.disk ≡ false) }
         ensures count { RisesBy (range_bytes (journal_of self.old.half).ranges + 4097) (D.written self.old.disk) (D.written self.new.disk) }
     {
         match move_home(&mut self.disk, &self.half) {

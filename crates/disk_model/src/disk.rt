@@ -32,7 +32,8 @@ pub trait Disk {
     /// The known length in bytes: the one that was last asked for or set. A disk that tells its contents knows theirs.
     ghost known: { Self → ℕ };
 
-    /// How often the device failed. The count never falls, and ends at 2^64 - 1.
+    /// How often the device failed. The count never falls, and ends at 2^64 - 1. A call that answers Ok leaves it as it was, so that no
+    /// body can hide a failed call behind one that is tried again.
     ghost faults: { Self → ℕ };
 
     /// How many bytes were written. The count never falls, and only `write_at` raises it.
@@ -63,6 +64,7 @@ pub trait Disk {
         ensures known_told { tells → known self.new ≡ known self.old }
         ensures count { written self.new ≡ written self.old }
         ensures cause { HasCause (faults self.old) (faults self.new) result }
+        ensures steady { OnOk result (faults self.new ≡ faults self.old) }
         ensures time { tells → Elapses (moment self.old) (moment self.new) (left_since self.old) (left_since self.new) }
         ensures crash { tells → (c : List ℕ) → left_since self.new (moment self.old) c → may_leave self.old c }
         ensures contents { tells → in_doubt self.old ≡ false → seen self.new ≡ seen self.old }
@@ -78,6 +80,7 @@ pub trait Disk {
         ensures known_err { OnErr result ((known self.new ≡ known self.old) ⊎ (known self.new ≡ bytes)) }
         ensures count { written self.new ≡ written self.old }
         ensures cause { HasCause (faults self.old) (faults self.new) result }
+        ensures steady { OnOk result (faults self.new ≡ faults self.old) }
         ensures time { tells → Elapses (moment self.old) (moment self.new) (left_since self.old) (left_since self.new) }
         ensures ticks { tells → OnOk result (moment self.old < moment self.new) }
         ensures crash { tells → Follows (Resized bytes) (may_leave self.old) (left_since self.new (moment self.old)) }
@@ -94,6 +97,7 @@ pub trait Disk {
         ensures known { known self.new ≡ known self.old }
         ensures count { written self.new ≡ written self.old }
         ensures cause { HasCause (faults self.old) (faults self.new) result }
+        ensures steady { OnOk result (faults self.new ≡ faults self.old) }
         ensures time { tells → Elapses (moment self.old) (moment self.new) (left_since self.old) (left_since self.new) }
         ensures crash { tells → (c : List ℕ) → left_since self.new (moment self.old) c → may_leave self.old c }
         ensures contents { tells → in_doubt self.old ≡ false → seen self.new ≡ seen self.old }
@@ -107,6 +111,7 @@ pub trait Disk {
         ensures known { known self.new ≡ known self.old }
         ensures count { RisesBy (length bytes.now) (written self.old) (written self.new) }
         ensures cause { HasCause (faults self.old) (faults self.new) result }
+        ensures steady { OnOk result (faults self.new ≡ faults self.old) }
         ensures time { tells → Elapses (moment self.old) (moment self.new) (left_since self.old) (left_since self.new) }
         ensures ticks { tells → OnOk result (moment self.old < moment self.new) }
         ensures crash { tells → Follows (Torn offset (length bytes.now)) (may_leave self.old) (left_since self.new (moment self.old)) }
@@ -124,6 +129,7 @@ pub trait Disk {
         ensures known { known self.new ≡ known self.old }
         ensures count { written self.new ≡ written self.old }
         ensures cause { HasCause (faults self.old) (faults self.new) result }
+        ensures steady { OnOk result (faults self.new ≡ faults self.old) }
         ensures time { tells → Elapses (moment self.old) (moment self.new) (left_since self.old) (left_since self.new) }
         ensures ticks { tells → OnOk result (moment self.old < moment self.new) }
         ensures crash { tells → (c : List ℕ) → left_since self.new (moment self.old) c → may_leave self.old c }

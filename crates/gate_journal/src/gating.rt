@@ -15,6 +15,7 @@ pub fn write_stable<D: Disk>(disk: &mut D, offset: u64, bytes: &[u8]) -> Result<
     requires { offset + length bytes.now ≤ D.known disk.old }
     ensures known { D.known disk.new ≡ D.known disk.old }
     ensures cause { HasCause (D.faults disk.old) (D.faults disk.new) result }
+    ensures steady { OnOk result (D.faults disk.new ≡ D.faults disk.old) }
     ensures count { RisesBy (length bytes.now) (D.written disk.old) (D.written disk.new) }
     ensures time { D.tells → Elapses (D.moment disk.old) (D.moment disk.new) (D.left_since disk.old) (D.left_since disk.new) }
     ensures crash { D.tells → Follows (Torn offset (length bytes.now)) (D.may_leave disk.old) (D.left_since disk.new (D.moment disk.old)) }
@@ -39,6 +40,7 @@ pub(crate) fn put_behind_gate<D: Disk>(
     requires settled { D.tells → D.in_doubt disk.old ≡ false }
     ensures known { D.known disk.new ≡ D.known disk.old }
     ensures cause { HasCause (D.faults disk.old) (D.faults disk.new) result }
+    ensures steady { OnOk result (D.faults disk.new ≡ D.faults disk.old) }
     ensures count { RisesBy (length bytes.now + 1) (D.written disk.old) (D.written disk.new) }
     ensures time { D.tells → Elapses (D.moment disk.old) (D.moment disk.new) (D.left_since disk.old) (D.left_since disk.new) }
     ensures crash { D.tells → (c : List ℕ) → D.left_since disk.new (D.moment disk.old) c → Staged gate at bytes.now (D.may_leave disk.old) (D.seen disk.old) c }

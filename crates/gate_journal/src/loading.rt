@@ -1,5 +1,5 @@
 //! A journal half read from a disk, or cleared on it.
-ghost use Rattle.std.specs.Prelude.{◌≡◌, ◌≢◌, ◌≤◌, false, Bool, not, List, ℕ, length, drop, replicate, Some, IfOk, IfErr, OnOk};
+ghost use Rattle.std.specs.Prelude.{◌≡◌, ◌≢◌, ◌≤◌, false, Bool, not, List, ℕ, length, drop, replicate, Some, IfOk, IfErr, OnOk, IsErrOf};
 ghost use Rattle.std.specs.List.{All, list_any, position_or_len};
 ghost use Rattle.fault_counts.specs.Counts.{Rose, RisesBy, HasCause};
 ghost use Rattle.disk_model.specs.Bytes.{patched, Torn};
@@ -57,6 +57,7 @@ fn read_gates<D: Disk>(disk: &mut D, half: u8) -> Result<OpenGates, DiskFailed>
     ensures few { IfOk result (λ gates. gates.count ≤ 4096) }
     ensures quiet { D.tells → Quiet D.Disk disk.old disk.new }
     ensures cause { HasCause (D.faults disk.old) (D.faults disk.new) result }
+    ensures steady { OnOk result (D.faults disk.new ≡ D.faults disk.old) }
     ensures known { D.known disk.new ≡ D.known disk.old }
     ensures written { D.written disk.new ≡ D.written disk.old }
 {
@@ -76,6 +77,7 @@ fn read_records<D: Disk>(alloc: Global, disk: &mut D, half: u8) -> Result<Vec<u8
     ensures device { IfErr result (λ fault. fault ≡ Device → Rose (D.faults disk.old) (D.faults disk.new)) }
     ensures known { D.known disk.new ≡ D.known disk.old }
     ensures later { D.faults disk.old ≤ D.faults disk.new }
+    ensures steady { (IsErrOf result Device → ⊥) → D.faults disk.new ≡ D.faults disk.old }
     ensures written { D.written disk.new ≡ D.written disk.old }
 {
     let mut area = vec![in alloc; 0; RECORDS_SIZE as usize]?;
@@ -131,6 +133,7 @@ fn load_batches<D: Disk>(
     ensures device { IfErr result (λ fault. fault ≡ Device → Rose (D.faults disk.old) (D.faults disk.new)) }
     ensures known { D.known disk.new ≡ D.known disk.old }
     ensures later { D.faults disk.old ≤ D.faults disk.new }
+    ensures steady { (IsErrOf result Device → ⊥) → D.faults disk.new ≡ D.faults disk.old }
     ensures written { D.written disk.new ≡ D.written disk.old }
 {
     if count == 0 {
@@ -166,6 +169,7 @@ impl Half {
         ensures device { IfErr result (λ fault. fault ≡ Device → Rose (D.faults disk.old) (D.faults disk.new)) }
         ensures known { D.known disk.new ≡ D.known disk.old }
         ensures later { D.faults disk.old ≤ D.faults disk.new }
+        ensures steady { (IsErrOf result Device → ⊥) → D.faults disk.new ≡ D.faults disk.old }
         ensures count { D.written disk.new ≡ D.written disk.old }
     {
         let gates = read_gates(disk, half)?;
@@ -205,6 +209,7 @@ impl Half {
         ensures device { IfErr result (λ fault. (fault ≡ JournalFault.Device) × Rose (D.faults disk.old) (D.faults disk.new)) }
         ensures known { D.known disk.new ≡ D.known disk.old }
         ensures later { D.faults disk.old ≤ D.faults disk.new }
+        ensures steady { OnOk result (D.faults disk.new ≡ D.faults disk.old) }
         ensures count { RisesBy 4096 (D.written disk.old) (D.written disk.new) }
     {
         disk.write_at(gates_start(half), &[0; GATES as usize])?;

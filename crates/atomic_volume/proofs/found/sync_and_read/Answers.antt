@@ -1,10 +1,12 @@
-use Rattle.std.proofs.Common.{ℕ, List, Result, Ok, Err, IfOk, sym, ◌∙◌, ap, subst}
+use Rattle.std.proofs.Common.{ℕ, List, Result, Ok, Err, IfOk, refl, sym, ◌∙◌, ap, subst}
 use Rattle.std.specs.Prelude.{IfErr}
 use Rattle.gate_journal.proofs.Quiets.{quiet_one, quiet_then}
 use Rattle.atomic_volume.specs.Opening.{opened}
 use Rattle.atomic_volume.specs.Held.{Holds}
 use Rattle.atomic_volume.specs.Refusals.{Refuses}
 use Rattle.atomic_volume.proofs.Finds.{found_mid, found_settled}
+use Rattle.atomic_volume.specs.declared.fault.VolumeFault.TheVariants.{Device}
+use Rattle.atomic_volume.proofs.Steady.{passed_on}
 use Rattle.atomic_volume.proofs.found.sync_and_read.Goals as goal
 
 if_ok : {A E : Type 0} (P Q : A → Type 0) (r : Result A E) → IfOk r P → ((a : A) → P a → Q a) → IfOk r Q
@@ -52,3 +54,9 @@ returns-clause-holds g c = λ told.
     if_ok _ _ c.read_image.result (c.read_image.ensures.holds told settled) (λ image holds x may.
     subst (Holds image.geometry image.half image.volume.items)
     (sym (found_mid d s0 s1 s2 (law s1) (law s2) (g.met.D.Disk.may_leave_seen told s1) (e.time told) (e.crash told) (e.contents told) durable settled quiet x may)) holds)
+
+pub returns-in_err-sync-clause-steady : goal.returns-in_err-sync-clause-steady
+returns-in_err-sync-clause-steady g c = λ not. absurd (not (passed_on c.from_residual.result Device Device c.from_residual.ensures.1 refl))
+
+pub returns-clause-steady : goal.returns-clause-steady
+returns-clause-steady g c = λ not. c.read_image.ensures.steady not ∙ c.in_ok-sync.ensures.steady
