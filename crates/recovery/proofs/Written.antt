@@ -194,6 +194,15 @@ front_is : (g : Geometry) (front : List ℕ) → front ≡ front_bytes g 16384 �
     → inodes_named (super_bytes g.blocks g.inodes) ≡ g.inodes → IsFront g (super_bytes g.blocks g.inodes) front
 front_is g front is right blocks inodes = record { stands = is; start_long = refl; right = right; blocks = blocks; inodes = inodes }
 
+front_long : (start bytes : List ℕ) → bytes ≡ start ++ replicate 16348 0 → length start ≡ 36 → length bytes ≡ 16384
+front_long start bytes is long = ap (λ (l : List ℕ). length l) is ∙ omega (arith, length-append start (replicate 16348 0), length-replicate {A = ℕ} 16348 0, long)
+
+-- what is written in front fits an image of these sizes
+pub front_fits : (g : Geometry) (bytes : List ℕ) (size : ℕ) → bytes ≡ front_bytes g 16384 → size ≡ 4096 * g.blocks → 0 + length bytes ≤ size
+front_fits g bytes size is long =
+    let front : length bytes ≡ 16384 = front_long (super_bytes g.blocks g.inodes) bytes is refl in
+    omega (arith, front, long, g.least_blocks)
+
 -- what two writes leave of an image that has its size
 pub made_by : (g : Geometry) (old second third seen bytes front tables read : List ℕ) (size place : ℕ) → AreSizes g size place → length old ≡ size → front ≡ front_bytes g 16384
     → first_wrong (super_bytes g.blocks g.inodes) ≡ None → blocks_named (super_bytes g.blocks g.inodes) ≡ g.blocks → inodes_named (super_bytes g.blocks g.inodes) ≡ g.inodes

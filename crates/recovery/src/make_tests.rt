@@ -73,37 +73,40 @@ fn wrong_place(bytes: &[u8], old: u8) -> Option<usize> {
     None
 }
 
-#[test]
-fn an_image_made_of_nothing_is_a_superblock_and_a_fresh_volume(
-    rt: HostRuntime,
-) -> Result<(), Fail> {
-    let mut disk = MemDisk::new(rt.alloc(), 0)?;
-    make(rt.alloc(), &mut disk, &Geometry::of(512, 32)?)?;
-    assert_eq!(rt;
-        [disk.calls(), disk.faults(), disk.written()],
-        [5, 0, 4096 * 10]
-    );
-    let bytes = contents(rt.alloc(), &mut disk)?;
-    assert_eq!(rt; bytes.len(), 512 * 4096);
-    assert_eq!(rt; wrong_place(&bytes, 0), None);
-    Ok(())
+/// A disk of so many old bytes, of which a write of the first failed, so that it is in doubt.
+fn doubtful_disk(alloc: Global, bytes: u64) -> Result<MemDisk, Fail>
+    requires least { 1 ≤ bytes }
+    requires most { bytes ≤ 64 * 2 ^ 20 }
+{
+    let mut disk = old_disk(alloc, bytes)?;
+    disk.plan(FailPlan::One {
+        kind: CallKind::Write,
+        number: 1,
+    });
+    match disk.write_at(0, &[1]) {
+        Ok(()) => Err("the write is done".into()),
+        Err(_) => Ok(disk),
+    }
 }
 
 #[test]
-fn only_the_record_areas_and_the_data_keep_old_bytes(rt: HostRuntime) -> Result<(), Fail> {
-    for blocks in [512, 600] {
-        let mut disk = old_disk(rt.alloc(), blocks * 4096)?;
+fn a_made_image_is_a_superblock_and_a_fresh_volume(rt: HostRuntime) -> Result<(), Fail> {
+    for (disk, old) in [
+        (MemDisk::new(rt.alloc(), 0)?, 0),
+        (old_disk(rt.alloc(), 512 * 4096)?, OLD),
+        (old_disk(rt.alloc(), 600 * 4096)?, OLD),
+        (doubtful_disk(rt.alloc(), 600 * 4096)?, OLD),
+    ] {
+        let mut disk = disk;
+        let before = [disk.calls(), disk.written()];
         make(rt.alloc(), &mut disk, &Geometry::of(512, 32)?)?;
+        assert_eq!(rt; disk.calls().wrapping_sub(before[0]), 5);
+        assert_eq!(rt; disk.written().wrapping_sub(before[1]), 4096 * 10);
         let mut stable = disk.image(rt.alloc(), 0)?;
         let bytes = contents(rt.alloc(), &mut stable)?;
         assert_eq!(rt; bytes.len(), 512 * 4096);
-        assert_eq!(rt; wrong_place(&bytes, OLD), None);
+        assert_eq!(rt; wrong_place(&bytes, old), None);
     }
-    Ok(())
-}
-
-#[test]
-fn a_made_image_has_no_batch(rt: HostRuntime) -> Result<(), Fail> {
     let mut disk = old_disk(rt.alloc(), 4096)?;
     make(rt.alloc(), &mut disk, &Geometry::of(600, 64)?)?;
     let looked = look(rt.alloc(), &mut disk)?;

@@ -1,6 +1,6 @@
 //! Images that are made.
-ghost use Rattle.std.specs.Prelude.{◌≡◌, ◌+◌, ◌-◌, ◌*◌, ◌^◌, ◌≤◌, false, vec_len, length, replicate, IfErr, OnOk, IfOk};
-ghost use Rattle.fault_counts.specs.Counts.{Rose, RisesBy};
+ghost use Rattle.std.specs.Prelude.{◌≡◌, ◌+◌, ◌-◌, ◌*◌, ◌^◌, ◌≤◌, false, vec_len, length, replicate, IfErr, OnOk, IfOk, IsErrOf};
+ghost use Rattle.fault_counts.specs.Counts.{Rose, HasCause, RisesBy};
 ghost use Rattle.disk_model.specs.Bytes.{patched};
 ghost use Rattle.disk_model.specs.Moments.{Only};
 ghost use Rattle.block_layout.specs.Sizes.{block_size, volume_start};
@@ -11,7 +11,7 @@ ghost use Rattle.recovery.specs.declared.fault.MakeFault.TheVariants.{Device, No
 use super::fault::MakeFault;
 use block_layout::{BLOCK_SIZE, Geometry, VOLUME_START, encode_super, written_is_read};
 use byteorder::{ByteOrder, LittleEndian};
-use disk_model::Disk;
+use disk_model::{Disk, DiskFailed};
 use inode_table::{Attr, Kind, encode_attr, record_place};
 use std::alloc::{AllocError, Global};
 
@@ -83,10 +83,23 @@ fn fresh_tables(alloc: Global, geometry: &Geometry) -> Result<Vec<u8>, AllocErro
     Ok(tables)
 }
 
+/// Sets the length of a disk and makes it stable, so that no doubt is left of what stands on it.
+fn set_length<D: Disk>(disk: &mut D, bytes: u64) -> Result<(), DiskFailed>
+    requires { bytes ≤ D.most }
+    ensures known { OnOk result (D.known disk.new ≡ bytes) }
+    ensures settled { D.tells → OnOk result (D.in_doubt disk.new ≡ false) }
+    ensures cause { HasCause (D.faults disk.old) (D.faults disk.new) result }
+    ensures steady { OnOk result (D.faults disk.new ≡ D.faults disk.old) }
+    ensures count { D.written disk.new ≡ D.written disk.old }
+{
+    disk.set_size(bytes)?;
+    disk.sync()
+}
+
 /// Makes a fresh image of these sizes: the root alone, with the number 0. What stood on the disk before is gone, but for what
 /// its data blocks and record areas hold.
 ///
-/// It sets the size and syncs, so that no doubt is left of what stood there. Then it writes the blocks before the record areas
+/// It sets the size and syncs, so that it may begin on a disk in doubt, too. Then it writes the blocks before the record areas
 /// and those of the volume up to the data blocks, and syncs again.
 /// `Device` comes only where the disk's faults rose, and `NoMemory` before any call on it.
 pub fn make<D: Disk>(alloc: Global, disk: &mut D, geometry: &Geometry) -> Result<(), MakeFault>
@@ -98,14 +111,14 @@ pub fn make<D: Disk>(alloc: Global, disk: &mut D, geometry: &Geometry) -> Result
     ensures device { IfErr result (λ fault. fault ≡ Device → Rose (D.faults disk.old) (D.faults disk.new)) }
     ensures untouched { IfErr result (λ fault. fault ≡ NoMemory → disk.new ≡ disk.old) }
     ensures later { D.faults disk.old ≤ D.faults disk.new }
+    ensures steady { (IsErrOf result Device → ⊥) → D.faults disk.new ≡ D.faults disk.old }
     ensures count { RisesBy (block_size * (4 + geometry.now.first_data - volume_start)) (D.written disk.old) (D.written disk.new) }
 {
     let front = front_of(alloc, geometry, (FRONT_BLOCKS * BLOCK_SIZE) as usize)?;
     let tables = fresh_tables(alloc, geometry)?;
     // The law does nothing. It says that the superblock is right, and that it names these sizes.
     written_is_read(geometry);
-    disk.set_size(geometry.bytes())?;
-    disk.sync()?;
+    set_length(disk, geometry.bytes())?;
     disk.write_at(0, &front)?;
     disk.write_at(u64::from(VOLUME_START * BLOCK_SIZE), &tables)?;
     disk.sync()?;

@@ -61,6 +61,10 @@ pub fn open<D: Disk>(alloc: Global, disk: D) -> Result<Opened<D>, Returned<OpenF
     ensures unwritten { IfErr result (λ refused. (D.written refused.kept ≡ D.written disk) ⊎ (refused.fault ≡ Device)) }
     ensures device { IfErr result (λ refused. refused.fault ≡ Device → Rose (D.faults disk) (D.faults refused.kept)) }
     ensures later { MatchResult result (λ done. D.faults disk ≤ D.faults done.volume.disk) (λ refused. D.faults disk ≤ D.faults refused.kept) }
+    ensures steady { IfOk result (λ opened. D.faults opened.volume.disk ≡ D.faults disk) }
+    ensures settled { D.tells → IfOk result (λ opened. D.in_doubt opened.volume.disk ≡ false) }
+    ensures doubt { D.tells → D.in_doubt disk ≡ false → IfErr result (λ refused. (refused.fault ≡ Device → ⊥) → D.in_doubt refused.kept ≡ false) }
+    ensures calm { IfErr result (λ refused. (refused.fault ≡ Device → ⊥) → D.faults refused.kept ≡ D.faults disk) }
     ensures count { MatchResult result (λ done. RisesBy (records_size + 4097) (D.written disk) (D.written done.volume.disk)) (λ refused. RisesBy (records_size + 4097) (D.written disk) (D.written refused.kept)) }
 {
     let found = match Found::open(alloc, disk) {

@@ -1,5 +1,5 @@
 //! Images that are viewed.
-ghost use Rattle.std.specs.Prelude.{◌≡◌, ◌≤◌, false, Some, IfOk, IfErr};
+ghost use Rattle.std.specs.Prelude.{◌≡◌, ◌≤◌, false, Some, IfOk, IfErr, IsErrOf};
 ghost use Rattle.fault_counts.specs.Counts.{Rose};
 ghost use Rattle.gate_journal.specs.Runs.{Quiet};
 ghost use Rattle.recovery.specs.Recovering.{recovered_for_now};
@@ -45,6 +45,8 @@ pub fn view<D: Disk>(alloc: Global, disk: &mut D) -> Result<Viewed, OpenFault>
     ensures quiet { D.tells → Quiet D.Disk disk.old disk.new }
     ensures device { IfErr result (λ fault. fault ≡ Device → Rose (D.faults disk.old) (D.faults disk.new)) }
     ensures later { D.faults disk.old ≤ D.faults disk.new }
+    ensures steady { (IsErrOf result Device → ⊥) → D.faults disk.new ≡ D.faults disk.old }
+    ensures doubt { D.tells → D.in_doubt disk.old ≡ false → D.in_doubt disk.new ≡ false }
     ensures count { D.written disk.new ≡ D.written disk.old }
 {
     let image = match read_image(alloc, disk) {

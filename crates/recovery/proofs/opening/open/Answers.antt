@@ -131,3 +131,27 @@ returns-in-Err-start-clause-count g c =
 
 pub returns-in-Err-start-clause-bad : goal.returns-in-Err-start-clause-bad
 returns-in-Err-start-clause-bad g c = λ told bad is. absurd (subst IsBadVolume c.in-Err-start.ensures.device.0 (c.of_volume-in-Err-start.ensures.bad bad is))
+
+pub returns-in-Err-clause-calm : goal.returns-in-Err-clause-calm
+returns-in-Err-clause-calm g c = λ not. c.in-Err.ensures.calm (λ is. not (c.of_volume.ensures.told is))
+
+pub returns-in-Err-check-clause-calm : goal.returns-in-Err-check-clause-calm
+returns-in-Err-check-clause-calm g c = λ not. ap g.D.Disk.faults c.end.ensures ∙ c.in-Ok.ensures.steady
+
+pub returns-in-Ok-start-clause-steady : goal.returns-in-Ok-start-clause-steady
+returns-in-Ok-start-clause-steady g c = c.in-Ok-start.ensures.steady ∙ c.in-Ok.ensures.steady
+
+pub returns-in-Err-start-clause-calm : goal.returns-in-Err-start-clause-calm
+returns-in-Err-start-clause-calm g c = λ not. absurd (not (c.of_volume-in-Err-start.ensures.told c.in-Err-start.ensures.device.0))
+
+pub returns-in-Ok-start-clause-settled : goal.returns-in-Ok-start-clause-settled
+returns-in-Ok-start-clause-settled g c = λ told. c.in-Ok-start.volume.settled told c.in-Ok-start.ensures.working
+
+pub returns-in-Err-clause-doubt : goal.returns-in-Err-clause-doubt
+returns-in-Err-clause-doubt g c = λ told settled not. (c.in-Err.ensures.quiet told).doubt settled
+
+pub returns-in-Err-check-clause-doubt : goal.returns-in-Err-check-clause-doubt
+returns-in-Err-check-clause-doubt g c = λ told settled not. ap g.D.Disk.in_doubt c.end.ensures ∙ (c.in-Ok.ensures.found told).settled.sure
+
+pub returns-in-Err-start-clause-doubt : goal.returns-in-Err-start-clause-doubt
+returns-in-Err-start-clause-doubt g c = λ told settled not. absurd (not (c.of_volume-in-Err-start.ensures.told c.in-Err-start.ensures.device.0))
