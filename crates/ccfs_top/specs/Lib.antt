@@ -1,5 +1,6 @@
 pub mod Found
 pub mod Stages
+pub mod Steady
 pub mod Taken
 pub mod Images
 pub mod Asked

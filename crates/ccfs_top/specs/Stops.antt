@@ -1,5 +1,5 @@
 -- Why a run stops before its end: what it says then, and what was written until then.
-use Rattle.std.specs.Prelude.{◌≡◌, ◌⊎◌, ℕ, List, [], ◌++◌, take}
+use Rattle.std.specs.Prelude.{◌≡◌, ◌⊎◌, ℕ, List, [], ◌++◌, take, Result, IsErrOf}
 use Rattle.script_text.specs.Texts.{usage_line, too_long_line, bad_image_line, bad_line_line, not_built_line, script_fault_line, disk_fault_line, memory_fault_line}
 use Rattle.ccfs_top.specs.declared.stop.Stop.{Stop}
 use Rattle.ccfs_top.specs.declared.stop.Stop.TheVariants.{Usage, Long, BadLine, NotBuilt, Source, Sink, Disk, BadImage, NoMemory}
@@ -26,6 +26,10 @@ status_of Sink = 6
 status_of Disk = 7
 status_of (BadImage bad) = 8
 status_of NoMemory = 9
+
+-- a run or a part of it stopped since the disk failed
+abbrev pub ByDisk : {A : Type 0} → Result A Stop → Type 0
+ByDisk result = IsErrOf result Disk
 
 -- its line; that of a failed sink is empty
 abbrev pub stop_line : Stop → List ℕ

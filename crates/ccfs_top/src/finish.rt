@@ -18,6 +18,7 @@ ghost use Rattle.ccfs_top.specs.Left.{Kept, Halts, Done, DoneOn, HaltsOn};
 ghost use Rattle.front_core.specs.Fronts.{new_front};
 ghost use Rattle.ccfs_top.specs.Runs.{image_by, ran, over};
 ghost use Rattle.ccfs_top.specs.Sessions.{Settled};
+ghost use Rattle.ccfs_top.specs.Steady.{Rises, Steady, Sure};
 ghost use Rattle.ccfs_top.specs.Stops.{IsFaultStop, IsLate};
 
 use crate::open::open;
@@ -75,6 +76,7 @@ fn write_shown<D: Disk, K: Sink>(alloc: Global, disk: &mut D, out: &mut K) -> Re
     ensures later { D.faults disk.old ≤ D.faults disk.new }
     ensures sink_later { K.faults out.old ≤ K.faults out.new }
     ensures device { IsErrOf result Stop.Disk → Rose (D.faults disk.old) (D.faults disk.new) }
+    ensures steady { (IsErrOf result Stop.Disk → ⊥) → D.faults disk.new ≡ D.faults disk.old }
     ensures late { IfErr result (λ stop. IsLate stop) }
 {
     let viewed = match view(alloc, disk) {
@@ -111,7 +113,11 @@ fn run_session<D: Disk, K: Sink>(
     ensures sink_cause { IfErr result (λ refused. refused.fault ≡ Stop.Sink → Rose (K.faults out.old) (K.faults out.new)) }
     ensures late { IfErr result (λ refused. IsLate refused.fault) }
     ensures sink_later { K.faults out.old ≤ K.faults out.new }
-    ensures device { IfErr result (λ refused. refused.fault ≡ Stop.Disk → Rose (D.faults session.volume.disk) (D.faults refused.kept)) }
+    ensures device { IfErr result (λ r. Rises D.Disk session.volume.disk r.kept (r.fault ≡ Stop.Disk)) }
+    ensures steady { IfOk result (λ done. D.faults done.disk ≡ D.faults session.volume.disk) }
+    ensures calm { IfErr result (λ r. Steady D.Disk session.volume.disk r.kept (r.fault ≡ Stop.Disk)) }
+    ensures settled { D.tells → IfOk result (λ done. D.in_doubt done.disk ≡ false) }
+    ensures sure { D.tells → IfErr result (λ r. (r.fault ≡ Stop.Disk → ⊥) → D.in_doubt r.kept ≡ false) }
 {
     let mut session = session;
     match perform_all(alloc, &mut session, calls, out) {
@@ -146,7 +152,11 @@ pub fn run_disk<D: Disk, K: Sink>(
     ensures sink_cause { IfErr result (λ refused. refused.fault ≡ Stop.Sink → Rose (K.faults out.old) (K.faults out.new)) }
     ensures late { IfErr result (λ refused. IsLate refused.fault) }
     ensures sink_later { K.faults out.old ≤ K.faults out.new }
-    ensures device { IfErr result (λ refused. refused.fault ≡ Stop.Disk → Rose (D.faults disk) (D.faults refused.kept)) }
+    ensures device { IfErr result (λ r. Rises D.Disk disk r.kept (r.fault ≡ Stop.Disk)) }
+    ensures steady { IfOk result (λ done. D.faults done.disk ≡ D.faults disk) }
+    ensures calm { IfErr result (λ r. Steady D.Disk disk r.kept (r.fault ≡ Stop.Disk)) }
+    ensures settled { D.tells → IfOk result (λ done. D.in_doubt done.disk ≡ false) }
+    ensures sure { D.tells → IfErr result (λ r. Sure D.Disk disk r.kept (r.fault ≡ Stop.Disk)) }
 {
     let session = match open(alloc, disk) {
         Ok(session) => session,

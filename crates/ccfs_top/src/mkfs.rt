@@ -3,6 +3,7 @@ ghost use Rattle.std.specs.Prelude.{◌≡◌, ◌≤◌, ◌*◌, ◌^◌, ◌+
 ghost use Rattle.fault_counts.specs.Counts.{Rose};
 ghost use Rattle.ccfs_top.specs.Left.{IsNew};
 ghost use Rattle.ccfs_top.specs.Runs.{fresh};
+ghost use Rattle.ccfs_top.specs.Steady.{Sure};
 ghost use Rattle.ccfs_top.specs.Stops.{Grew, IsFaultStop};
 
 use crate::stop::Stop;
@@ -13,7 +14,8 @@ use recovery::{MakeFault, make};
 use script_text::made_text;
 use std::alloc::Global;
 
-/// Makes a fresh image of these sizes, and writes the line that says so.
+/// Makes a fresh image of these sizes, and writes the line that says so. The line has its memory before the disk has a call, so that
+/// want of memory leaves the disk as it was.
 pub fn make_image<D: Disk, K: Sink>(
     alloc: Global,
     disk: &mut D,
@@ -28,12 +30,11 @@ pub fn make_image<D: Disk, K: Sink>(
     ensures sink_cause { IsErrOf result Stop.Sink → Rose (K.faults out.old) (K.faults out.new) }
     ensures sink_later { K.faults out.old ≤ K.faults out.new }
     ensures device { IsErrOf result Stop.Disk → Rose (D.faults disk.old) (D.faults disk.new) }
+    ensures untouched { IsErrOf result Stop.NoMemory → disk.new ≡ disk.old }
+    ensures steady { (IsErrOf result Stop.Disk → ⊥) → D.faults disk.new ≡ D.faults disk.old }
+    ensures settled { D.tells → OnOk result (D.in_doubt disk.new ≡ false) }
+    ensures sure { D.tells → Sure D.Disk disk.old disk.new (IsErrOf result Stop.Disk) }
 {
-    match make(alloc, disk, geometry) {
-        Ok(()) => {}
-        Err(MakeFault::Device) => return Err(Stop::Disk),
-        Err(MakeFault::NoMemory) => return Err(Stop::NoMemory),
-    }
     let Ok(line) = made_text(
         alloc,
         geometry.blocks,
@@ -42,6 +43,11 @@ pub fn make_image<D: Disk, K: Sink>(
     ) else {
         return Err(Stop::NoMemory);
     };
+    match make(alloc, disk, geometry) {
+        Ok(()) => {}
+        Err(MakeFault::Device) => return Err(Stop::Disk),
+        Err(MakeFault::NoMemory) => return Err(Stop::NoMemory),
+    }
     match write_all(out, line.all()) {
         Ok(()) => Ok(()),
         Err(_) => Err(Stop::Sink),

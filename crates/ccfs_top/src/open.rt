@@ -15,6 +15,7 @@ ghost use Rattle.carried_volumes.specs.Carried.{HaveInodes};
 ghost use Rattle.front_laws.specs.Logging.{metadata_size};
 ghost use Rattle.front_core.specs.Fronts.{new_front};
 ghost use Rattle.ccfs_top.specs.Runs.{image_by};
+ghost use Rattle.ccfs_top.specs.Steady.{Rises, Steady, Sure};
 ghost use Rattle.ccfs_top.specs.Sessions.{Settled};
 
 use crate::session::Session;
@@ -47,7 +48,10 @@ pub fn open<D: Disk>(alloc: Global, disk: D) -> Result<Session<D>, Returned<Open
     ensures small { IfOk result (λ s. s.first < 2 ^ 64) }
     ensures shut { D.tells → IfErr result (λ refused. IsShut D.Disk disk refused.kept refused.fault) }
     ensures later { MatchResult result (λ s. D.faults disk ≤ D.faults s.volume.disk) (λ refused. D.faults disk ≤ D.faults refused.kept) }
-    ensures device { IfErr result (λ refused. refused.fault ≡ open_fault.Device → Rose (D.faults disk) (D.faults refused.kept)) }
+    ensures device { IfErr result (λ r. Rises D.Disk disk r.kept (r.fault ≡ open_fault.Device)) }
+    ensures steady { IfOk result (λ s. D.faults s.volume.disk ≡ D.faults disk) }
+    ensures calm { IfErr result (λ r. Steady D.Disk disk r.kept (r.fault ≡ open_fault.Device)) }
+    ensures sure { D.tells → IfErr result (λ r. Sure D.Disk disk r.kept (r.fault ≡ open_fault.Device)) }
 {
     let opened = recovery::open(alloc, disk)?;
     let volume = opened.volume;

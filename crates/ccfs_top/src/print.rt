@@ -25,6 +25,7 @@ pub fn print_tree<D: Disk, K: Sink>(alloc: Global, disk: &mut D, out: &mut K) ->
     ensures sink_cause { IsErrOf result Stop.Sink → Rose (K.faults out.old) (K.faults out.new) }
     ensures sink_later { K.faults out.old ≤ K.faults out.new }
     ensures device { IsErrOf result Stop.Disk → Rose (D.faults disk.old) (D.faults disk.new) }
+    ensures steady { (IsErrOf result Stop.Disk → ⊥) → D.faults disk.new ≡ D.faults disk.old }
 {
     let viewed = match view(alloc, disk) {
         Ok(viewed) => viewed,

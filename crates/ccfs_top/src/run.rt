@@ -13,7 +13,8 @@ ghost use Rattle.ccfs_top.specs.Left.{Kept, Halts};
 ghost use Rattle.ccfs_top.specs.Runs.{image_by, replies, final_number, final_tree, ran};
 ghost use Rattle.ccfs_top.specs.Sessions.{Settled, Shows};
 ghost use Rattle.front_core.specs.Fronts.{new_front};
-ghost use Rattle.ccfs_top.specs.Stops.{IsFaultStop};
+ghost use Rattle.ccfs_top.specs.Steady.{Rises, Steady};
+ghost use Rattle.ccfs_top.specs.Stops.{ByDisk, IsFaultStop};
 
 use crate::session::{Session, StepFault};
 use crate::stop::Stop;
@@ -26,6 +27,7 @@ use std::alloc::Global;
 fn stop_of_step(fault: StepFault) -> Stop
     requires built { fault ≡ StepFault.NotBuilt → ⊥ }
     ensures device { result ≡ Stop.Disk → fault ≡ StepFault.Device }
+    ensures told { fault ≡ StepFault.Device → result ≡ Stop.Disk }
     ensures kinds { (result ≡ Stop.Disk) ⊎ (result ≡ Stop.NoMemory) }
 {
     match fault {
@@ -80,7 +82,9 @@ pub fn perform_all<D: Disk, K: Sink>(
     ensures later { D.faults session.old.volume.disk ≤ D.faults session.new.volume.disk }
     ensures sink_later { K.faults out.old ≤ K.faults out.new }
     ensures sink_cause { IsErrOf result Stop.Sink → Rose (K.faults out.old) (K.faults out.new) }
-    ensures device { IsErrOf result Stop.Disk → Rose (D.faults session.old.volume.disk) (D.faults session.new.volume.disk) }
+    ensures device { Rises D.Disk session.old.volume.disk session.new.volume.disk (ByDisk result) }
+    ensures steady { Steady D.Disk session.old.volume.disk session.new.volume.disk (ByDisk result) }
+    ensures unfailed { (ByDisk result → ⊥) → session.new.volume.failed ≡ false }
 {
     for call in calls {
         let reply = match session.step(alloc, call.actor, &call.command) {

@@ -7,12 +7,14 @@ ghost use Rattle.gate_journal.specs.Halves.{size_of, journal_of, MayFollow};
 ghost use Rattle.gate_journal.specs.Runs.{LeavesBy};
 ghost use Rattle.atomic_volume.specs.Held.{contents_by};
 ghost use Rattle.atomic_volume.specs.Homing.{IsMoved};
+ghost use Rattle.atomic_volume.specs.declared.fault.VolumeFault.TheVariants as volume_fault;
 ghost use Rattle.image_model.specs.Checks.{is_last};
 ghost use Rattle.front_laws.specs.Batches.{batch_at};
 ghost use Rattle.front_laws.specs.Kept.{is_answered};
 ghost use Rattle.front_core.specs.Fronts.{next_history, seals_of};
 ghost use Rattle.ccfs_top.specs.Runs.{further};
-ghost use Rattle.ccfs_top.specs.Stages.{is_sync_form};
+ghost use Rattle.ccfs_top.specs.Stages.{Failed, is_sync_form};
+ghost use Rattle.ccfs_top.specs.Steady.{Rises, Steady};
 ghost use Rattle.ccfs_top.specs.Taken.{next_batch, journal_for, HasOneMore, room_in, taken_by, size_at, HasTaken};
 ghost use Rattle.ccfs_top.specs.Sessions.{Settled, ShowsOneOf, IsStepped};
 
@@ -60,6 +62,21 @@ fn is_sync_form(command: &Command) -> bool
     )
 }
 
+/// Why a call wasn't performed, where a commit was refused.
+fn stop_of_commit(fault: VolumeFault) -> StepFault
+    ensures device { fault ≡ volume_fault.Device → result ≡ StepFault.Device }
+    ensures told { result ≡ StepFault.Device → fault ≡ volume_fault.Device }
+    ensures built { result ≡ StepFault.NotBuilt → ⊥ }
+{
+    match fault {
+        VolumeFault::Device => StepFault::Device,
+        VolumeFault::NoMemory
+        | VolumeFault::BadLength
+        | VolumeFault::BadSuper { .. }
+        | VolumeFault::BadJournal { .. } => StepFault::NoMemory,
+    }
+}
+
 /// Makes room for a batch: where it doesn't fit the half in use, a checkpoint moves what is in it home, and the other half takes the batch.
 /// Where it fits, nothing is done. `Device` is the only fault, and comes only where the disk's faults rose.
 fn make_room<D: Disk>(volume: &mut Volume<D>, batch: &Batch) -> Result<(), StepFault>
@@ -73,6 +90,7 @@ fn make_room<D: Disk>(volume: &mut Volume<D>, batch: &Batch) -> Result<(), StepF
     ensures later { D.faults volume.old.disk ≤ D.faults volume.new.disk }
     ensures device { IfErr result (λ fault. fault ≡ StepFault.Device) }
     ensures rose { OnErr result (Rose (D.faults volume.old.disk) (D.faults volume.new.disk)) }
+    ensures steady { OnOk result (D.faults volume.new.disk ≡ D.faults volume.old.disk) }
 {
     if volume.accepts(batch) {
         return Ok(());
@@ -103,7 +121,9 @@ impl<D: Disk> Session<D> {
         ensures geometry { self.new.volume.geometry ≡ self.old.volume.geometry }
         ensures moments { D.tells → LeavesBy D.Disk self.old.volume.disk self.new.volume.disk (ShowsOneOf self.old.front self.old.first self.old.written (self.old.written + 1)) }
         ensures later { D.faults self.old.volume.disk ≤ D.faults self.new.volume.disk }
-        ensures device { IsErrOf result StepFault.Device → Rose (D.faults self.old.volume.disk) (D.faults self.new.volume.disk) }
+        ensures device { Rises D.Disk self.old.volume.disk self.new.volume.disk (Failed result) }
+        ensures steady { Steady D.Disk self.old.volume.disk self.new.volume.disk (Failed result) }
+        ensures unfailed { (Failed result → ⊥) → self.new.volume.failed ≡ false }
         ensures built { IsErrOf result StepFault.NotBuilt → ⊥ }
     {
         self.front.is_kept();
@@ -117,8 +137,7 @@ impl<D: Disk> Session<D> {
                 self.written += 1;
                 Ok(())
             }
-            Err(VolumeFault::Device) => Err(StepFault::Device),
-            Err(_) => Err(StepFault::NoMemory),
+            Err(fault) => Err(stop_of_commit(fault)),
         }
     }
 
@@ -138,7 +157,9 @@ impl<D: Disk> Session<D> {
         ensures working { OnOk result (self.new.volume.failed ≡ false) }
         ensures moments { D.tells → LeavesBy D.Disk self.old.volume.disk self.new.volume.disk (ShowsOneOf self.old.front self.old.first self.old.written (seals_of self.old.front)) }
         ensures later { D.faults self.old.volume.disk ≤ D.faults self.new.volume.disk }
-        ensures device { IsErrOf result StepFault.Device → Rose (D.faults self.old.volume.disk) (D.faults self.new.volume.disk) }
+        ensures device { Rises D.Disk self.old.volume.disk self.new.volume.disk (Failed result) }
+        ensures steady { Steady D.Disk self.old.volume.disk self.new.volume.disk (Failed result) }
+        ensures unfailed { (Failed result → ⊥) → self.new.volume.failed ≡ false }
         ensures built { IsErrOf result StepFault.NotBuilt → ⊥ }
     {
         let sealed = self.front.take_sealed();
@@ -171,7 +192,9 @@ impl<D: Disk> Session<D> {
         ensures working { OnOk result (self.new.volume.failed ≡ false) }
         ensures moments { D.tells → LeavesBy D.Disk self.old.volume.disk self.new.volume.disk (ShowsOneOf (record self.old.front { entries = next_history self.old.front actor command.now }) self.old.first self.old.written (seals_of (record self.old.front { entries = next_history self.old.front actor command.now }))) }
         ensures later { D.faults self.old.volume.disk ≤ D.faults self.new.volume.disk }
-        ensures device { IsErrOf result StepFault.Device → Rose (D.faults self.old.volume.disk) (D.faults self.new.volume.disk) }
+        ensures device { Rises D.Disk self.old.volume.disk self.new.volume.disk (Failed result) }
+        ensures steady { Steady D.Disk self.old.volume.disk self.new.volume.disk (Failed result) }
+        ensures unfailed { (Failed result → ⊥) → self.new.volume.failed ≡ false }
         ensures answered { OnOk result (is_answered command.now ≡ true) }
         ensures unbuilt { IsErrOf result StepFault.NotBuilt → is_answered command.now ≡ false }
         ensures not_entered { IsErrOf result StepFault.NotBuilt → self.new ≡ self.old }

@@ -10,6 +10,7 @@ ghost use Rattle.ccfs_top.specs.Ends.{EndsWith, IsEarly, IsMadeStatus, IsRefusal
 ghost use Rattle.ccfs_top.specs.Images.{Unread};
 ghost use Rattle.ccfs_top.specs.Left.{DoneOn, HaltsOn, Ran, Printed, IsNew};
 ghost use Rattle.ccfs_top.specs.Runs.{IsReady, IsUnready, alone, calls_in, expected, fresh};
+ghost use Rattle.ccfs_top.specs.Steady.{Rises, Steady, Sure};
 ghost use Rattle.ccfs_top.specs.Stops.{Decides, IsLate, Told, SaidOf};
 
 use crate::ended::Ended;
@@ -55,7 +56,11 @@ fn run_script<D: Disk, S: Source, K: Sink>(
     ensures source { IfErr result (λ refused. refused.fault ≡ Stop.Source → Rose (S.faults script.old) (S.faults script.new)) }
     ensures sink_cause { IfErr result (λ refused. refused.fault ≡ Stop.Sink → Rose (K.faults out.old) (K.faults out.new)) }
     ensures sink_later { K.faults out.old ≤ K.faults out.new }
-    ensures device { IfErr result (λ refused. refused.fault ≡ Stop.Disk → Rose (D.faults disk) (D.faults refused.kept)) }
+    ensures device { IfErr result (λ r. Rises D.Disk disk r.kept (r.fault ≡ Stop.Disk)) }
+    ensures steady { IfOk result (λ done. D.faults done.disk ≡ D.faults disk) }
+    ensures calm { IfErr result (λ r. Steady D.Disk disk r.kept (r.fault ≡ Stop.Disk)) }
+    ensures settled { D.tells → IfOk result (λ done. D.in_doubt done.disk ≡ false) }
+    ensures sure { D.tells → IfErr result (λ r. Sure D.Disk disk r.kept (r.fault ≡ Stop.Disk)) }
     ensures untouched { IfErr result (λ refused. (IsLate refused.fault → ⊥) → refused.kept ≡ disk) }
     ensures unready { S.tells → IsUnready (S.left script.old) → IsErr result }
     ensures unready_untouched { S.tells → IsUnready (S.left script.old) → IfErr result (λ refused. refused.kept ≡ disk) }
@@ -92,7 +97,10 @@ fn run<D: Disk, S: Source, K: Sink>(alloc: Global, disk: D, script: &mut S, out:
     ensures no_batches { (result.status ≡ 0 → ⊥) → result.batches ≡ 0 }
     ensures source_fault { result.status ≡ 5 → Rose (S.faults script.old) (S.faults script.new) }
     ensures sink_fault { result.status ≡ 6 → Rose (K.faults out.old) (K.faults out.new) }
-    ensures disk_fault { result.status ≡ 7 → Rose (D.faults disk) (D.faults result.disk) }
+    ensures disk_fault { Rises D.Disk disk result.disk (result.status ≡ 7) }
+    ensures disk_steady { Steady D.Disk disk result.disk (result.status ≡ 7) }
+    ensures sure { D.tells → Sure D.Disk disk result.disk (result.status ≡ 7) }
+    ensures settled { D.tells → result.status ≡ 0 → D.in_doubt result.disk ≡ false }
     ensures untouched { IsEarly result.status → result.disk ≡ disk }
     ensures unready_untouched { S.tells → IsUnready (S.left script.old) → result.disk ≡ disk }
 {
@@ -115,7 +123,11 @@ fn mkfs<D: Disk, K: Sink>(alloc: Global, disk: D, geometry: &Geometry, out: &mut
     ensures new { D.tells → result.status ≡ 0 → IsNew D.Disk result.disk geometry.now.blocks geometry.now.inodes }
     ensures no_batches { result.batches ≡ 0 }
     ensures sink_fault { result.status ≡ 6 → Rose (K.faults out.old) (K.faults out.new) }
-    ensures disk_fault { result.status ≡ 7 → Rose (D.faults disk) (D.faults result.disk) }
+    ensures unmade { result.status ≡ 9 → result.disk ≡ disk }
+    ensures disk_fault { Rises D.Disk disk result.disk (result.status ≡ 7) }
+    ensures disk_steady { Steady D.Disk disk result.disk (result.status ≡ 7) }
+    ensures sure { D.tells → Sure D.Disk disk result.disk (result.status ≡ 7) }
+    ensures settled { D.tells → result.status ≡ 0 → D.in_doubt result.disk ≡ false }
 {
     let mut disk = disk;
     match make_image(alloc, &mut disk, geometry, out) {
@@ -136,7 +148,9 @@ fn tree<D: Disk, K: Sink>(alloc: Global, disk: D, out: &mut K) -> Ended<D>
     ensures count { D.written result.disk ≡ D.written disk }
     ensures no_batches { (result.status ≡ 0 → ⊥) → result.batches ≡ 0 }
     ensures sink_fault { result.status ≡ 6 → Rose (K.faults out.old) (K.faults out.new) }
-    ensures disk_fault { result.status ≡ 7 → Rose (D.faults disk) (D.faults result.disk) }
+    ensures disk_fault { Rises D.Disk disk result.disk (result.status ≡ 7) }
+    ensures disk_steady { Steady D.Disk disk result.disk (result.status ≡ 7) }
+    ensures sure { D.tells → Sure D.Disk disk result.disk (result.status ≡ 7) }
 {
     let mut disk = disk;
     match print_tree(alloc, &mut disk, out) {
@@ -171,6 +185,7 @@ pub fn shell<D: Disk, S: Source, K: Sink>(
     ensures made { (blocks inodes : ℕ) → asked_by words.now ≡ Some (Mkfs blocks inodes) → EndsWith (fresh blocks inodes) 0 result.status result.batches
         × (K.tells → Wrote (fresh blocks inodes) (Rose (K.faults out.old) (K.faults out.new)) 0 result.status (K.held out.old) (K.held out.new)) }
     ensures new { (blocks inodes : ℕ) → asked_by words.now ≡ Some (Mkfs blocks inodes) → D.tells → result.status ≡ 0 → IsNew D.Disk result.disk blocks inodes }
+    ensures unmade { (blocks inodes : ℕ) → asked_by words.now ≡ Some (Mkfs blocks inodes) → result.status ≡ 9 → result.disk ≡ disk }
     // A script that is run: what was found, how the run ended, what a crash leaves, and what was written.
     ensures ran { asked_by words.now ≡ Some Run → S.tells → D.tells
         → Ran D.Disk disk result.disk (S.left script.old) K.tells (Rose (K.faults out.old) (K.faults out.new)) result.status result.batches (K.held out.old) (K.held out.new) }
@@ -187,7 +202,11 @@ pub fn shell<D: Disk, S: Source, K: Sink>(
     ensures unread { (asked_by words.now ≡ Some Run → ⊥) → script.new ≡ script.old }
     ensures source_fault { result.status ≡ 5 → (asked_by words.now ≡ Some Run) × Rose (S.faults script.old) (S.faults script.new) }
     ensures sink_fault { result.status ≡ 6 → Rose (K.faults out.old) (K.faults out.new) }
-    ensures disk_fault { result.status ≡ 7 → Rose (D.faults disk) (D.faults result.disk) }
+    ensures disk_fault { Rises D.Disk disk result.disk (result.status ≡ 7) }
+    ensures disk_steady { Steady D.Disk disk result.disk (result.status ≡ 7) }
+    // A disk that failed in no call isn't left in doubt: the next row finds what this one left.
+    ensures sure { D.tells → Sure D.Disk disk result.disk (result.status ≡ 7) }
+    ensures settled { D.tells → result.status ≡ 0 → (asked_by words.now ≡ Some Tree → ⊥) → D.in_doubt result.disk ≡ false }
     // Until the words and the script are known to be right, the disk has no call.
     ensures untouched { IsEarly result.status → result.disk ≡ disk }
     ensures unready_untouched { asked_by words.now ≡ Some Run → S.tells → IsUnready (S.left script.old) → result.disk ≡ disk }

@@ -1,4 +1,4 @@
-use Rattle.std.proofs.Common.{sym, subst, arith}
+use Rattle.std.proofs.Common.{sym, subst, arith, ◌∙◌}
 use Rattle.std.proofs.lemmas.Result.{IfOk-weaker, IfErr-weaker}
 use Rattle.atomic_volume.specs.Held.{contents_by}
 use Rattle.ccfs_top.specs.declared.stop.Stop.{Stop}
@@ -41,3 +41,12 @@ returns-clause-device g c =
 
 pub returns-in-Err-clause-late : goal.returns-in-Err-clause-late
 returns-in-Err-clause-late g c = open_late c.stop_of_open.result c.in-Err.refused.fault c.stop_of_open.ensures
+
+pub returns-clause-steady : goal.returns-clause-steady
+returns-clause-steady g c = IfOk-weaker c.run_session.result _ _ (λ done is. is ∙ c.in-Ok.ensures.steady) c.run_session.ensures.steady
+
+pub returns-clause-calm : goal.returns-clause-calm
+returns-clause-calm g c = IfErr-weaker c.run_session.result _ _ (λ refused is not. is not ∙ c.in-Ok.ensures.steady) c.run_session.ensures.calm
+
+pub returns-clause-sure : goal.returns-clause-sure
+returns-clause-sure g c = λ told. IfErr-weaker c.run_session.result _ _ (λ refused is _ not. is not) (c.run_session.ensures.sure told)

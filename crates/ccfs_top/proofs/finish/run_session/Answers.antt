@@ -1,5 +1,7 @@
 use Rattle.std.proofs.Common.{◌≡◌, ◌++◌, ℕ, List, false, refl, sym, ap, ◌∙◌, subst, arith, append_assoc}
+use Rattle.std.specs.declared.result.Result.{Result}
 use Rattle.std.specs.declared.result.Result.TheVariants.{Err}
+use Rattle.atomic_volume.proofs.Steady.{unless_ok}
 use Rattle.tree_model.specs.Picture.{picture}
 use Rattle.std.specs.declared.option.Option.TheVariants.{Some}
 use Rattle.gate_journal.specs.Runs.{Quiet}
@@ -13,6 +15,12 @@ use Rattle.ccfs_top.proofs.Ending.{fault_late}
 use Rattle.ccfs_top.proofs.Viewing.{shown_of}
 use Rattle.ccfs_top.proofs.Finishing.{kept_then, halts_tree}
 use Rattle.ccfs_top.proofs.finish.run_session.Goals as goal
+
+told_stop : {x y : Stop} → ◌≡◌ {A = Result (Unit {0}) Stop} (Err x) (Err y) → x ≡ y
+told_stop is = cc is
+
+told_shown : {x y : Stop} → ◌≡◌ {A = Result ℕ Stop} (Err x) (Err y) → x ≡ y
+told_shown is = cc is
 
 pub returns-in-Err-clause-halts : goal.returns-in-Err-clause-halts
 returns-in-Err-clause-halts g c = λ told.
@@ -88,3 +96,28 @@ returns-in-Err-write_shown-clause-halts g c = λ told.
     (λ sink_told. c.in-Ok.ensures.text sink_told)
     (λ sink_told cause. e.sink told sink_told settled number items shows (ap (λ z. Err z) cause))
     (λ sink_told not. e.unwritten sink_told (λ no. not (cc no)))
+
+-- ---- the count of faults, and the doubt
+
+pub returns-in-Err-clause-calm : goal.returns-in-Err-clause-calm
+returns-in-Err-clause-calm g c = λ not. ap g.D.Disk.faults c.end.ensures ∙ c.in-Err.ensures.steady (λ is. not (told_stop is))
+
+pub returns-in-Err-clause-sure : goal.returns-in-Err-clause-sure
+returns-in-Err-clause-sure g c = λ told not.
+    ap g.D.Disk.in_doubt c.end.ensures ∙ c.perform_all.new.session.volume.settled told (c.in-Err.ensures.unfailed (λ is. not (told_stop is)))
+
+pub returns-in-Ok-write_shown-clause-steady : goal.returns-in-Ok-write_shown-clause-steady
+returns-in-Ok-write_shown-clause-steady g c =
+    unless_ok _ _ c.in-Ok-write_shown.ensures.steady ∙ ap g.D.Disk.faults c.end-disk.ensures ∙ unless_ok _ _ c.in-Ok.ensures.steady
+
+pub returns-in-Ok-write_shown-clause-settled : goal.returns-in-Ok-write_shown-clause-settled
+returns-in-Ok-write_shown-clause-settled g c = λ told.
+    (c.in-Ok-write_shown.ensures.quiet told).doubt (ap g.D.Disk.in_doubt c.end-disk.ensures ∙ c.perform_all.new.session.volume.settled told c.in-Ok.ensures.working)
+
+pub returns-in-Err-write_shown-clause-calm : goal.returns-in-Err-write_shown-clause-calm
+returns-in-Err-write_shown-clause-calm g c = λ not.
+    c.in-Err-write_shown.ensures.steady (λ is. not (told_shown is)) ∙ ap g.D.Disk.faults c.end-disk.ensures ∙ unless_ok _ _ c.in-Ok.ensures.steady
+
+pub returns-in-Err-write_shown-clause-sure : goal.returns-in-Err-write_shown-clause-sure
+returns-in-Err-write_shown-clause-sure g c = λ told _.
+    (c.in-Err-write_shown.ensures.quiet told).doubt (ap g.D.Disk.in_doubt c.end-disk.ensures ∙ c.perform_all.new.session.volume.settled told c.in-Ok.ensures.working)

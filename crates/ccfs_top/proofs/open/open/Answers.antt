@@ -128,3 +128,15 @@ returns-in-Err-clause-later g c = subst (λ x. g.D.Disk.faults c.args.disk ≤ g
 
 pub returns-in-Err-clause-device : goal.returns-in-Err-clause-device
 returns-in-Err-clause-device g c = λ is. absurd (apart (sym c.refused-in-Err.ensures.fault ∙ is))
+
+pub returns-in_default-clause-calm : goal.returns-in_default-clause-calm
+returns-in_default-clause-calm g c = λ _. ap g.D.Disk.faults c.refused.ensures.kept ∙ c.in_ok-opened.ensures.steady
+
+pub returns-in_default-clause-sure : goal.returns-in_default-clause-sure
+returns-in_default-clause-sure g c = λ told _ _. ap g.D.Disk.in_doubt c.refused.ensures.kept ∙ c.in_ok-opened.ensures.settled told
+
+pub returns-in-Err-clause-calm : goal.returns-in-Err-clause-calm
+returns-in-Err-clause-calm g c = λ _. ap g.D.Disk.faults c.refused-in-Err.ensures.kept ∙ c.in_ok-opened.ensures.steady
+
+pub returns-in-Err-clause-sure : goal.returns-in-Err-clause-sure
+returns-in-Err-clause-sure g c = λ told _ _. ap g.D.Disk.in_doubt c.refused-in-Err.ensures.kept ∙ c.in_ok-opened.ensures.settled told

@@ -1,6 +1,7 @@
 use Rattle.std.proofs.Common.{◌≡◌, ◌+◌, ◌++◌, ◌≤◌, ◌<◌, ℕ, List, [], ◌∷◌, length, true, inl, sym, ap, ◌∙◌, refl, subst, arith}
 use Rattle.std.specs.declared.result.Result.{Result}
 use Rattle.ccfs_base.specs.Fits.{fits_command}
+use Rattle.ccfs_base.specs.declared.replies.Reply.{Reply}
 use Rattle.std.specs.declared.result.Result.TheVariants.{Err}
 use Rattle.std.specs.declared.option.Option.TheVariants.{Some}
 use Rattle.std.proofs.lemmas.List.{append-nil, length-append}
@@ -13,6 +14,7 @@ use Rattle.history_model.specs.Histories.{start, seal_count, tree_at, durable}
 use Rattle.script_text.specs.Texts.{reply_line}
 use Rattle.gate_journal.specs.Halves.{journal_of}
 use Rattle.image_model.specs.Checks.{is_last}
+use Rattle.atomic_volume.proofs.Steady.{unless_ok}
 use Rattle.atomic_volume.specs.Held.{contents_by}
 use Rattle.recovery.specs.Recovering.{picture_shown}
 use Rattle.front_core.specs.Fronts.{Fronted, next_entry}
@@ -37,6 +39,9 @@ use Rattle.ccfs_top.proofs.run.perform_all.Goals as goal
 told_stop : {x y : Stop} → ◌≡◌ {A = Result (Unit {0}) Stop} (Err x) (Err y) → x ≡ y
 told_stop is = cc is
 
+told_step : {x y : StepFault} → ◌≡◌ {A = Result Reply StepFault} (Err x) (Err y) → x ≡ y
+told_step is = cc is
+
 pub loop-call-init : goal.loop-call-init
 loop-call-init g c =
     let first = c.args.session.now in let v = first.volume in
@@ -60,6 +65,7 @@ loop-call-init g c =
         each = λ x left. inl (g.met.D.Disk.only_now told v.disk x left);
       };
       later = omega arith;
+      steady = refl;
       sink_later = omega arith;
     }
 
@@ -148,6 +154,17 @@ returns-in-Err-write_reply-clause-sink_cause g c = λ is.
 pub returns-in-Err-write_reply-clause-device : goal.returns-in-Err-write_reply-clause-device
 returns-in-Err-write_reply-clause-device g c = λ is. absurd (no_disk c.in-Err-write_reply.stop c.in-Err-write_reply.ensures.kinds (told_stop is))
 
+pub returns-in-Err-clause-steady : goal.returns-in-Err-clause-steady
+returns-in-Err-clause-steady g c = λ not.
+    c.in-Err.ensures.steady (λ is. not (ap (λ (z : Stop). Err z) (c.stop_of_step.ensures.told (told_step is)))) ∙ c.loop-call.invariant.steady
+
+pub returns-in-Err-clause-unfailed : goal.returns-in-Err-clause-unfailed
+returns-in-Err-clause-unfailed g c = λ not.
+    c.in-Err.ensures.unfailed (λ is. not (ap (λ (z : Stop). Err z) (c.stop_of_step.ensures.told (told_step is))))
+
+pub returns-in-Err-write_reply-clause-steady : goal.returns-in-Err-write_reply-clause-steady
+returns-in-Err-write_reply-clause-steady g c = λ _. unless_ok _ _ c.in-Ok.ensures.steady ∙ c.loop-call.invariant.steady
+
 pub loop-call-preserved : goal.loop-call-preserved
 loop-call-preserved g c =
     let first = c.args.session.now in let v = c.loop-call.invariant in let s = c.loop-call.session in let n = c.step.new.self in
@@ -180,6 +197,7 @@ loop-call-preserved g c =
           (λ x w. within_step s.front s.first first.first image.tree image.sizes call.actor call.command s.written x v.first_number v.opening v.sizes w)
           (c.in-Ok.ensures.moments told)) in kept.ever);
       later = omega (arith, v.later, later);
+      steady = unless_ok _ _ c.in-Ok.ensures.steady ∙ v.steady;
       sink_later = omega (arith, v.sink_later, sink_later);
     }
 

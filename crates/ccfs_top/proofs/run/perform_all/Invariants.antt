@@ -26,5 +26,6 @@ invariant-loop-call g l = let first = l.initial.session in let s = l.session in 
   since : g.D.Disk.tells → LeavesBy g.D.Disk first.volume.disk v.disk
       (λ c. g.D.Disk.may_leave first.volume.disk c ⊎ Within (image_by first.first first.front) (first_history (image_by first.first first.front) l.calls l.call-index) 0 c);
   later : g.D.Disk.faults first.volume.disk ≤ g.D.Disk.faults v.disk;
+  steady : g.D.Disk.faults v.disk ≡ g.D.Disk.faults first.volume.disk;
   sink_later : g.K.Sink.faults l.initial.out ≤ g.K.Sink.faults l.out;
 }

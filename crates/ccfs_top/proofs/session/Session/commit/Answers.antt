@@ -1,5 +1,8 @@
 use Rattle.std.proofs.Common.{◌≡◌, ⊎_elim, ℕ, ◌+◌, ◌≤◌, true, List, length, arith, rules, refl, sym, ap, ◌∙◌, subst}
 use Rattle.std.proofs.lemmas.Bool.{eq-eqb}
+use Rattle.std.specs.declared.result.Result.{Result}
+use Rattle.std.specs.declared.result.Result.TheVariants.{Err}
+use Rattle.ccfs_top.specs.declared.session.StepFault.{StepFault}
 use Rattle.ccfs_base.specs.declared.records.Rec.{Rec}
 use Rattle.ccfs_base.specs.Records.{AreInside}
 use Rattle.gate_journal.specs.declared.batches.Batch.{Batch}
@@ -21,6 +24,9 @@ use Rattle.ccfs_top.proofs.session.Session.commit.Goals as goal
 
 apart : Device ≡ NoMemory → ⊥
 apart is = cc is
+
+told_step : {x y : StepFault} → ◌≡◌ {A = Result (Unit {0}) StepFault} (Err x) (Err y) → x ≡ y
+told_step is = cc is
 
 -- ---- the batch
 
@@ -122,17 +128,6 @@ returns-in-Ok-commit-clause-moments g c = λ told.
     c.make_room.ensures.geometry c.make_room.ensures.bytes c.in_ok-make_room.ensures.journal (m.sound told c.in_ok-make_room.ensures.working) next hand
     (c.make_room.ensures.any_moment told) (c.commit.ensures.any_moment told)
 
-pub returns-in-Err-Device-clause-moments : goal.returns-in-Err-Device-clause-moments
-returns-in-Err-Device-clause-moments g c = λ told.
-    let s = c.args.self.now in let v = s.volume in let m = c.make_room.new.volume in let b = c.in-Ok.batch in
-    let number = next_number s.first s.written in let same = ap (λ z. z.recs) c.requires.next in
-    let next = is_next s.metadata s.front s.first s.written b c.args.sealed.now.recs _ same number c.in-Ok.ensures.number c.in-Ok.ensures.ranges in
-    let hand = hand_after s.metadata c.batch.new.self s.front s.first s.written c.args.sealed.now.recs _ same number c.in-Ok.ensures.left in
-    commit_left g.D.Disk v.disk m.disk c.commit.new.self.disk v.geometry m.geometry v.half m.half v.volume.items m.volume.items s.metadata c.batch.new.self s.front s.first s.written (length (batch_bytes b)) b
-    (record { settled = c.requires.settled; last = c.requires.last; sound = v.sound told c.requires.working }) c.is_kept.ensures.kept c.requires.more
-    c.make_room.ensures.geometry c.make_room.ensures.bytes c.in_ok-make_room.ensures.journal (m.sound told c.in_ok-make_room.ensures.working) next hand
-    (c.make_room.ensures.any_moment told) (c.commit.ensures.any_moment told)
-
 pub returns-clause-moments : goal.returns-clause-moments
 returns-clause-moments g c = λ told.
     let s = c.args.self.now in let v = s.volume in let m = c.make_room.new.volume in let b = c.in-Ok.batch in
@@ -144,10 +139,20 @@ returns-clause-moments g c = λ told.
     c.make_room.ensures.geometry c.make_room.ensures.bytes c.in_ok-make_room.ensures.journal (m.sound told c.in_ok-make_room.ensures.working) next hand
     (c.make_room.ensures.any_moment told) (c.commit.ensures.any_moment told)
 
-pub returns-in-Err-Device-clause-device : goal.returns-in-Err-Device-clause-device
-returns-in-Err-Device-clause-device g c = λ _.
+pub returns-clause-device : goal.returns-clause-device
+returns-clause-device g c = λ is.
     let before = c.make_room.ensures.later in
-    ⊎_elim (λ failed. let rose = failed.2 in omega (arith, rose, before)) (λ wanting. absurd (apart (sym c.in-Err-Device.field-0-is ∙ wanting.0))) c.in-Err-Device.ensures.faults
+    let made = c.stop_of_commit.ensures.told (told_step is) in
+    ⊎_elim (λ failed. let rose = failed.2 in omega (arith, rose, before)) (λ wanting. absurd (apart (sym made ∙ wanting.0))) c.in-Err.ensures.faults
+
+pub returns-clause-steady : goal.returns-clause-steady
+returns-clause-steady g c = λ not.
+    ⊎_elim (λ failed. absurd (not (ap (λ (z : StepFault). Err z) (c.stop_of_commit.ensures.device failed.0))))
+    (λ wanting. ap g.D.Disk.faults wanting.2 ∙ c.in_ok-make_room.ensures.steady) c.in-Err.ensures.faults
+
+pub returns-clause-unfailed : goal.returns-clause-unfailed
+returns-clause-unfailed g c = λ not.
+    ⊎_elim (λ failed. absurd (not (ap (λ (z : StepFault). Err z) (c.stop_of_commit.ensures.device failed.0)))) (λ wanting. wanting.1) c.in-Err.ensures.faults
 
 pub overflow_add-self : goal.overflow_add-self
 overflow_add-self g c =

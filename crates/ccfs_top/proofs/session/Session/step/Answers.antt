@@ -1,4 +1,5 @@
 use Rattle.std.proofs.Common.{sym, ◌∙◌, arith, rules}
+use Rattle.atomic_volume.proofs.Steady.{unless_ok}
 use Rattle.front_core.specs.Fronts.{seals_of}
 use Rattle.ccfs_top.specs.Sessions.{ShowsOneOf}
 use Rattle.ccfs_top.proofs.Rooms.{none_taken}
@@ -92,3 +93,6 @@ returns-clause-moments g c = λ told.
     let asked = asked_of s.front c.args.actor c.args.command.now in
     leaves_wider g.D.Disk s.volume.disk n.volume.disk (ShowsOneOf mid s.first s.written (seals_of mid)) (ShowsOneOf asked s.first s.written (seals_of asked))
     (λ x. shows_acted s.front mid s.first s.written (seals_of mid) c.args.actor c.args.command.now x c.in-Ok.ensures.acted (omega arith)) (c.write_all.ensures.moments told)
+
+pub returns-clause-steady : goal.returns-clause-steady
+returns-clause-steady g c = λ _. unless_ok _ _ c.in_ok-write_all.ensures.steady

@@ -1,5 +1,6 @@
 use Rattle.std.proofs.Common.{◌≡◌, ◌+◌, ℕ, refl, sym, ap, ◌∙◌, subst, arith, rules}
 use Rattle.gate_journal.specs.Halves.{journal_of}
+use Rattle.atomic_volume.proofs.Steady.{unless_ok}
 use Rattle.front_core.specs.Fronts.{Fronted, seals_of}
 use Rattle.ccfs_top.specs.Taken.{room_in, taken_by, size_at, HasTaken}
 use Rattle.ccfs_top.specs.Sessions.{Settled, ShowsOneOf}
@@ -26,6 +27,7 @@ loop-batch-init g c =
           (settled_shows v.geometry v.half v.volume.items s.metadata s.front s.first s.written c.requires.settled c.requires.last)
           v.disk (v.sound told c.requires.working) s.written n (omega arith) c.requires.settled.few (g.met.D.Disk.earlier told v.disk) (g.met.D.Disk.only_now told v.disk);
       later = omega arith;
+      steady = refl;
     }
 
 pub commit-requires-clause-next : goal.commit-requires-clause-next
@@ -74,6 +76,7 @@ loop-batch-preserved g c =
           (leaves_wider g.D.Disk l.self.volume.disk n.volume.disk (ShowsOneOf l.self.front l.self.first l.self.written (l.self.written + 1)) (ShowsOneOf s.front s.first s.written (seals_of s.front))
           (λ x. shows_all s.front l.self.front s.first l.self.first s.written l.self.written l.batch-index x l.invariant.front l.invariant.first l.invariant.written more) (c.commit.ensures.moments told));
       later = let now = c.commit.ensures.later in let before = l.invariant.later in omega (arith, now, before);
+      steady = unless_ok _ _ c.in_ok-commit.ensures.steady ∙ l.invariant.steady;
     }
 
 pub returns-clause-written : goal.returns-clause-written

@@ -22,4 +22,5 @@ invariant-loop-batch g l = let old = l.fn.self in let v = l.self.volume in recor
   geometry : v.geometry ≡ old.volume.geometry;
   moments : g.D.Disk.tells → LeavesBy g.D.Disk old.volume.disk v.disk (ShowsOneOf old.front old.first old.written (seals_of old.front));
   later : g.D.Disk.faults old.volume.disk ≤ g.D.Disk.faults v.disk;
+  steady : g.D.Disk.faults v.disk ≡ g.D.Disk.faults old.volume.disk;
 }
