@@ -16,11 +16,6 @@ pub(crate) const COMMIT: u64 = 4;
 /// How many images are looked at.
 pub(crate) const PICKS: u64 = 21;
 
-/// How many of them are opened, too, and how many openings of these are stopped in turn.
-const OPENED_PICKS: u64 = 5;
-
-const STOPPED_PICKS: u64 = 4;
-
 /// The text of the tree of an image. The test fails where it holds none.
 fn tree_in(alloc: Global, image: MemDisk) -> Result<MemSink, Fail> {
     let (status, text) = print(alloc, image)?;
@@ -55,9 +50,7 @@ fn has_second(
     if !is_second && text.held() != first {
         return Err("an image has another tree".into());
     }
-    if pick < OPENED_PICKS {
-        opens_to(alloc, disk.image(alloc, pick)?, text.held())?;
-    }
+    opens_to(alloc, disk.image(alloc, pick)?, text.held())?;
     Ok(is_second)
 }
 
@@ -206,7 +199,7 @@ fn a_sync_that_stops_leaves_cuts(rt: HostRuntime) -> Result<(), Fail> {
     Ok(())
 }
 
-/// The test fails where the image of a pick prints another tree, also where its opening is stopped in turn.
+/// The test fails where the image of a pick prints another tree once its opening is stopped in turn, at one of its ten calls by the pick.
 fn stops_again(alloc: Global, disk: &MemDisk, pick: u64, tree: &[u8]) -> Result<(), Fail> {
     let plan = FailPlan::From {
         call: pick % OPENING + 1,
@@ -234,7 +227,7 @@ fn opening_stops_at(alloc: Global, image: &MemDisk, number: u64, tree: &[u8]) ->
     let plan = FailPlan::From { call: number };
     let disk = stopped(alloc, image.image(alloc, 0)?, plan, b"", b"")?;
     left(alloc, &disk, tree, tree)?;
-    for pick in 0..STOPPED_PICKS {
+    for pick in 0..PICKS {
         stops_again(alloc, &disk, pick, tree)?;
     }
     Ok(())
