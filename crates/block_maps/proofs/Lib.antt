@@ -1,0 +1,5 @@
+mod Examples
+pub mod Lists
+pub mod Placing
+mod Pointing
+pub mod Whole
