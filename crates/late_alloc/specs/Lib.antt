@@ -1,0 +1,5 @@
+pub mod Choice
+pub mod Gaining
+pub mod Lengths
+pub mod Reaches
+pub mod Steps
