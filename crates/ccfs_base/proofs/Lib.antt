@@ -7,3 +7,4 @@ pub mod Put
 pub mod OneBit
 pub mod AtPlaces
 pub mod Examples
+pub mod Over

@@ -10,3 +10,4 @@ pub mod Places
 pub mod Records
 pub mod Rooms
 pub mod Logs
+pub mod StreamSets

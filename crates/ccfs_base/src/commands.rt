@@ -4,6 +4,7 @@ ghost use Rattle.std.specs.Prelude.{◌≡◌, IfOk};
 use super::NoMemory;
 use super::buffer::Bytes;
 use super::paths::Path;
+use super::streams::STREAMS;
 
 /// A command of an actor.
 #[derive(Clone, Debug, Drop)]
@@ -127,9 +128,6 @@ pub const WRITE_MOST: usize = 65536;
 
 /// The most bytes that a command reads.
 pub const READ_MOST: u32 = 4096;
-
-/// The number of streams.
-pub const STREAMS: u8 = 64;
 
 impl Command {
     ghost use Rattle.ccfs_base.specs.Fits.{fits_command};

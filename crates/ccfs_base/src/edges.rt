@@ -34,7 +34,8 @@ pub trait Source {
         ensures left { tells → IfOk result (λ n. left self.old ≡ take n into.new ++ left self.new) }
         ensures end { tells → IfOk result (λ n. (n ≡ 0) ↔ (left self.old ≡ [])) }
         ensures nothing { tells → OnErr result ((given self.new ≡ given self.old) × (left self.new ≡ left self.old)) }
-        ensures cause { HasCause (faults self.old) (faults self.new) result };
+        ensures cause { HasCause (faults self.old) (faults self.new) result }
+        ensures steady { OnOk result (faults self.new ≡ faults self.old) };
 }
 
 /// What bytes are written to. An implementation tells what it holds, or not (`tells`); its count of faults is always
@@ -52,7 +53,8 @@ pub trait Sink {
         ensures count { IfOk result (λ n. (1 ≤ n) × (n ≤ length bytes.now)) }
         ensures put { tells → IfOk result (λ n. held self.new ≡ held self.old ++ take n bytes.now) }
         ensures nothing { tells → OnErr result (held self.new ≡ held self.old) }
-        ensures cause { HasCause (faults self.old) (faults self.new) result };
+        ensures cause { HasCause (faults self.old) (faults self.new) result }
+        ensures steady { OnOk result (faults self.new ≡ faults self.old) };
 }
 
 /// Writes all of the bytes. Where the sink fails, a front of them that lacks the last is written.
@@ -60,6 +62,7 @@ pub fn write_all<K: Sink>(out: &mut K, bytes: &[u8]) -> Result<(), SinkFailed>
     ensures ok { K.tells → OnOk result (K.held out.new ≡ K.held out.old ++ bytes.now) }
     ensures err { K.tells → OnErr result ((n : ℕ) × (n < length bytes.now) × (K.held out.new ≡ K.held out.old ++ take n bytes.now)) }
     ensures cause { HasCause (K.faults out.old) (K.faults out.new) result }
+    ensures steady { OnOk result (K.faults out.new ≡ K.faults out.old) }
 {
     let mut done = 0;
     while done < bytes.len() {

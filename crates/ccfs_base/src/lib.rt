@@ -16,6 +16,7 @@ pub mod places;
 pub mod records;
 pub mod refused;
 pub mod replies;
+pub mod streams;
 
 pub use buffer::Bytes;
 pub use commands::Command;
@@ -24,9 +25,11 @@ pub use limits::{FILE_MAX, TXN_LIMIT, blocks};
 pub use memory::{MemSink, MemSource};
 pub use naming::{Name, NameFault};
 pub use paths::{Path, PathFault, PathNames};
+pub use places::superimpose;
 pub use records::{Rec, Recs};
 pub use refused::Returned;
 pub use replies::{Names, Refusal, Reply};
+pub use streams::{STREAMS, has_bit, with_bit};
 
 /// Want of memory. The call that answers it changed nothing.
 pub type NoMemory = std::alloc::AllocError;

@@ -1,5 +1,5 @@
 //! A source and a sink in memory, with one call that fails where that is wanted.
-ghost use Rattle.std.specs.Prelude.{◌≡◌, ◌↔◌, ◌<◌, ◌≤◌, ◌-◌, ◌^◌, ℕ, List, [], ◌++◌, length, take, drop, min, IfOk, OnErr};
+ghost use Rattle.std.specs.Prelude.{◌≡◌, ◌↔◌, ◌<◌, ◌≤◌, ◌-◌, ◌^◌, ℕ, List, [], ◌++◌, length, take, drop, min, IfOk, OnOk, OnErr};
 ghost use Rattle.fault_counts.specs.Counts.{raised, HasCause};
 
 use super::buffer::Bytes;
@@ -82,6 +82,7 @@ impl Source for MemSource {
         ensures rest { IfOk result (λ n. drop n into.new ≡ drop n into.old) }
         ensures nothing { OnErr result ((self.new.given ≡ self.old.given) × (self.new.left ≡ self.old.left) × (into.new ≡ into.old)) }
         ensures cause { HasCause self.old.faults self.new.faults result }
+        ensures steady { OnOk result (self.new.faults ≡ self.old.faults) }
         ensures ends { SourceEnds self.old self.new result }
         ensures counted { self.new.calls ≡ raised self.old.calls }
         ensures plan { (self.new.fails ≡ self.old.fails) × (self.new.most ≡ self.old.most) }
@@ -182,6 +183,7 @@ impl Sink for MemSink {
         ensures put { IfOk result (λ n. self.new.held ≡ self.old.held ++ take n bytes.now) }
         ensures nothing { OnErr result (self.new.held ≡ self.old.held) }
         ensures cause { HasCause self.old.faults self.new.faults result }
+        ensures steady { OnOk result (self.new.faults ≡ self.old.faults) }
         ensures ends { SinkEnds self.old self.new result }
         ensures counted { self.new.calls ≡ raised self.old.calls }
         ensures plan { (self.new.fails ≡ self.old.fails) × (self.new.most ≡ self.old.most) }

@@ -5,7 +5,7 @@ ghost use Rattle.ccfs_base.specs.declared.records.Rec.TheVariants as recs;
 ghost use Rattle.ccfs_base.specs.Places.{IsInside, part, put, with_bit};
 ghost use Rattle.ccfs_base.specs.Records.{acts_at, recorded};
 
-use ccfs_base::Rec;
+use ccfs_base::{Rec, superimpose};
 
 /// Does to the bytes what the record says. Places are counted from the first of them.
 pub fn apply_rec(base: &mut [u8], rec: &Rec)
@@ -17,14 +17,6 @@ pub fn apply_rec(base: &mut [u8], rec: &Rec)
         Rec::Add { off, by } => raise(base, *off as usize, *by),
         Rec::Bit { off, bit, on } => flip(base, *off as usize, *bit, *on),
     }
-}
-
-/// Puts bytes at a place, over what stands there.
-pub fn superimpose(base: &mut [u8], off: usize, bytes: &[u8])
-    requires { off + length bytes.now ≤ length base.old }
-    ensures { base.new ≡ put base.old off bytes.now }
-{
-    base[off..off + bytes.len()].copy_from_slice(bytes);
 }
 
 /// Raises a counter of eight bytes, modulo 2^64.

@@ -9,7 +9,7 @@ mod apply;
 pub mod laws;
 mod log;
 
-pub use apply::{apply_rec, superimpose};
+pub use apply::apply_rec;
 pub use log::DeltaLog;
 
 #[cfg(test)]

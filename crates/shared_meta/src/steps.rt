@@ -5,8 +5,8 @@ ghost use Rattle.ccfs_base.specs.Places.{IsInside};
 ghost use Rattle.ccfs_base.specs.Records.{acts_at, recorded, all_recorded, AreInside};
 ghost use Rattle.shared_meta.specs.Held.{stood, IsCopy};
 
-use ccfs_base::{NoMemory, Rec};
-use delta_log::{apply_rec, superimpose};
+use ccfs_base::{NoMemory, Rec, superimpose};
+use delta_log::apply_rec;
 use std::alloc::Global;
 use std::mem;
 

@@ -1,7 +1,7 @@
 use Rattle.std.proofs.Common.{arith, ◌≡◌, ◌+◌, ◌-◌, ◌∙◌, ap, length, ℕ, List}
 use borrow.Rule.Slice.PartMut.{put_mid}
-use Rattle.delta_log.proofs.Over.{put_mid_is}
-use Rattle.delta_log.proofs.apply.superimpose.Goals as goal
+use Rattle.ccfs_base.proofs.Over.{put_mid_is}
+use Rattle.ccfs_base.proofs.places.superimpose.Goals as goal
 
 pub returns : goal.returns
 returns c =
