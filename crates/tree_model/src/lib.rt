@@ -9,8 +9,6 @@ mod asking;
 mod keeping;
 mod keys;
 pub mod laws;
-#[cfg(test)]
-mod meeting_tests;
 mod node;
 mod nodes;
 mod picturing;
@@ -18,8 +16,6 @@ mod rows;
 #[cfg(test)]
 mod tests;
 mod updating;
-#[cfg(test)]
-mod updating_tests;
 mod walking;
 
 pub use asking::blocks_of;
