@@ -253,3 +253,22 @@ pub struct Entry {
     /// What it changed of the tree, if it changed anything.
     pub update: Option<Update>,
 }
+
+impl Entry {
+    /// The same entry once more.
+    pub fn copy(&self) -> Result<Entry, NoMemory>
+        ensures { IfOk result (λ entry. entry ≡ self.now) }
+    {
+        let update = match &self.update {
+            Some(update) => Some(update.copy()?),
+            None => None,
+        };
+        Ok(Entry {
+            actor: self.actor,
+            stream: self.stream,
+            command: self.command.copy()?,
+            reply: self.reply.copy()?,
+            update,
+        })
+    }
+}
