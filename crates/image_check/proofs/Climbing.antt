@@ -1,5 +1,5 @@
 -- Chains of parents, and marks on them.
-use Rattle.std.proofs.Common.{◌≡◌, ℕ, zero, suc, ◌+◌, ◌-◌, ◌<◌, List, length, refl, sym, ap, ◌∙◌, inl, inr, arith}
+use Rattle.std.proofs.Common.{◌≡◌, ℕ, zero, suc, ◌+◌, ◌-◌, ◌<◌, ◌≤◌, List, length, refl, sym, ap, ◌∙◌, inl, inr, arith}
 use Rattle.std.specs.Prelude.{Bool, true, false, Option, Some, None, is_some, slice_index_or}
 use Rattle.std.proofs.lemmas.Bool.{cases_eq, cases_lt, cases_Bool, eqb-true}
 use Rattle.tree_model.specs.Rows.{up, up_from}
@@ -10,7 +10,7 @@ use Rattle.image_model.specs.Lowest.{NoneBelow}
 use Rattle.image_model.specs.Checks.{parent_at, is_root_above, is_rooted}
 use Rattle.image_model.proofs.Least.{lowest_none}
 use Rattle.image_model.proofs.Rooted.{rooted_is_below}
-use Rattle.image_check.specs.Marks.{marked_at, is_marked_above, Climbs, AreMarks}
+use Rattle.image_check.specs.Marks.{marked_at, is_marked_above, Climbs, AreMarks, AreMarkedUp}
 
 apart : {X : Type 0} (b : Bool) → b ≡ true → b ≡ false → X
 apart b yes_ no_ = absurd (let z : true ≡ false = sym yes_ ∙ no_ in cc)
@@ -91,3 +91,22 @@ marked_more t old new at are same kept fresh climbing = record {
     | inr wasnt ↦ climbing i (fresh i marked wasnt)
   ];
 }
+
+-- one inode more of a chain is marked
+pub walked_more : (t : Table) (old new : List Bool) (at : Option ℕ) (inode k : ℕ) → length new ≡ length old
+    → ((i : ℕ) → slice_index_or old i false ≡ true → slice_index_or new i false ≡ true)
+    → ((i : ℕ) → at ≡ Some i → i < length old → slice_index_or new i false ≡ true)
+    → at ≡ up (parent_at t) k inode → AreMarkedUp t old inode k → AreMarkedUp t new inode (k + 1)
+walked_more t old new at inode k same kept is_set here walked = λ j x below comes within. elim (cases_lt j k) [
+  | inl before ↦ kept x (walked j x before comes (omega arith))
+  | inr last ↦
+      let this : j ≡ k = omega arith in
+      is_set x (here ∙ sym (ap (λ n. up (parent_at t) n inode) this) ∙ comes) (omega arith)
+]
+
+-- no more inodes are passed than there are steps to a marked one
+pub up_to_mark : (t : Table) (marks : List Bool) (inode steps found : ℕ) → NoneBelow (is_marked_above t marks inode) steps → is_marked_above t marks inode found ≡ true → steps ≤ found
+up_to_mark t marks inode steps found none marked = elim (cases_lt found steps) [
+  | inl past ↦ apart (is_marked_above t marks inode found) marked (none found past)
+  | inr before ↦ before
+]

@@ -1,11 +1,11 @@
 //! Rings: inodes whose chain of parents doesn't come to the root. Each chain is followed up to the first inode that is marked
 //! as below the root, and then all of it is marked. So each inode is met a few times, and once more where there is a ring.
-ghost use Rattle.std.specs.Prelude.{◌≡◌, ◌<◌, ℕ, true, false, Some, IfSome, IfOk, MatchOption, slice_index_or};
+ghost use Rattle.std.specs.Prelude.{◌≡◌, ◌<◌, ℕ, true, false, length, Some, IfSome, IfOk, MatchOption, slice_index_or};
 ghost use Rattle.tree_model.specs.Rows.{up_from};
 ghost use Rattle.image_model.specs.Lowest.{lowest, NoneBelow};
 ghost use Rattle.image_model.specs.Checks.{parent_at, is_rooted, is_in_ring};
 ghost use Rattle.image_check.specs.Tables.{seen, HasOnlyEntries};
-ghost use Rattle.image_check.specs.Marks.{marked_at, is_marked_above, Climbs, AreMarks};
+ghost use Rattle.image_check.specs.Marks.{marked_at, is_marked_above, Climbs, AreMarks, AreMarkedUp, MarksItsWalk};
 
 use super::table::Table;
 use ccfs_base::NoMemory;
@@ -48,6 +48,7 @@ fn is_marked(marks: &[bool], at: Option<u32>) -> bool
 fn set_mark(marks: &mut [bool], at: Option<u32>)
     ensures kept { (i : ℕ) → slice_index_or marks.old i false ≡ true → slice_index_or marks.new i false ≡ true }
     ensures new { (i : ℕ) → slice_index_or marks.new i false ≡ true → slice_index_or marks.old i false ≡ false → at ≡ Some i }
+    ensures set { (i : ℕ) → at ≡ Some i → i < length marks.old → marked_at marks.new (Some i) ≡ true }
 {
     if let Some(inode) = at {
         if (inode as usize) < marks.len() {
@@ -77,7 +78,8 @@ fn mark_chain(table: &Table, marks: &mut [bool], inode: u32, steps: u32)
     requires entries { HasOnlyEntries table.now }
     requires marks { AreMarks (seen table.now) marks.old }
     requires below { Climbs (seen table.now) inode }
-    ensures { AreMarks (seen table.now) marks.new }
+    ensures sound { AreMarks (seen table.now) marks.new }
+    ensures walked { AreMarkedUp (seen table.now) marks.new inode steps }
 {
     let mut at = Some(inode);
     for _step in 0..steps {
@@ -93,6 +95,7 @@ fn is_rooted(table: &Table, marks: &mut [bool], inode: u32) -> bool
     requires some { 0 < table.now.used.count }
     ensures answer { result ≡ is_rooted (seen table.now) inode }
     ensures marks { AreMarks (seen table.now) marks.new }
+    ensures walked { result ≡ true → MarksItsWalk (seen table.now) marks.old marks.new inode }
 {
     match steps_to_mark(table, marks, inode) {
         Some(steps) => {
