@@ -10,7 +10,6 @@ use Rattle.tree_model.specs.declared.keys.Key.{Key}
 use Rattle.tree_model.specs.declared.keys.Key.TheVariants.{Entry, Node, Shape}
 use Rattle.tree_model.specs.Keys.{clash, keys_of, touches, meets}
 use Rattle.tree_model.specs.Laws.{is_changed_node, changes_node}
-use Rattle.cross_dep.specs.declared.book.RoomCall.{RoomCall}
 use Rattle.cross_dep.specs.Books.{Book, Call, IsBookOf, marks_of, one_of, without}
 use Rattle.cross_dep.specs.Kept.{Held, IsMarked}
 use Rattle.cross_dep.specs.Held.{any_clashes, book_in, held_at, keys_in}
@@ -77,10 +76,6 @@ told_changed book unsealed x s is l = is.tells s (Node x false) l ∙ (λ i. one
 -- no marks
 pub book_of_none : (book : Book) → ((s : ℕ) → marks_of book s ≡ []) → IsBookOf book []
 book_of_none book none = record { tells = λ (s : ℕ) (key : Key) (l : s < 64). ap (λ (z : List Key). list_any (clash key) z) (none s) }
-
--- the same marks
-pub book_same : (old new : Book) (unsealed : List Call) → ((s : ℕ) → marks_of new s ≡ marks_of old s) → IsBookOf old unsealed → IsBookOf new unsealed
-book_same old new unsealed same is = record { tells = λ (s : ℕ) (key : Key) (l : s < 64). ap (λ (z : List Key). list_any (clash key) z) (same s) ∙ is.tells s key l }
 
 or_none : (b : Bool) → (b || false) ≡ b
 or_none true = refl
@@ -150,17 +145,12 @@ book_without old new stream unsealed none others is = record { tells = tells }
 
 -- ---- what is held
 
--- the same marks in other memory
-pub held_same : (marks new : List Held) (room rest : List RoomCall) (unsealed : List Call) → keys_in new ≡ keys_in marks
-    → IsBookOf (book_in marks room) unsealed → IsBookOf (book_in new rest) unsealed
-held_same marks new room rest unsealed same is = book_same (book_in marks room) (book_in new rest) unsealed (λ s. ap (λ (z : List (List Key)). get_or z s []) same) is
-
 -- an update was marked
-pub held_more : (marks new : List Held) (room rest : List RoomCall) (stream : ℕ) (update : Update) (unsealed : List Call)
+pub held_more : (marks new : List Held) (stream : ℕ) (update : Update) (unsealed : List Call)
     → IsMarked (held_at marks stream).keys update (held_at new stream).keys → ((other : ℕ) → other ≢ stream → held_at new other ≡ held_at marks other)
-    → IsBookOf (book_in marks room) unsealed → IsBookOf (book_in new rest) (unsealed ++ (stream, update) ∷ [])
-held_more marks new room rest stream update unsealed marked others is =
-    book_more (book_in marks room) (book_in new rest) stream update unsealed
+    → IsBookOf (book_in marks) unsealed → IsBookOf (book_in new) (unsealed ++ (stream, update) ∷ [])
+held_more marks new stream update unsealed marked others is =
+    book_more (book_in marks) (book_in new) stream update unsealed
     (subst (λ z. IsMarked z update (get_or (keys_in new) stream [])) (sym (keys_at marks stream))
     (subst (λ z. IsMarked (held_at marks stream).keys update z) (sym (keys_at new stream)) marked))
     (λ s n. keys_at new s ∙ ap (λ (z : Held). z.keys) (others s n) ∙ sym (keys_at marks s)) is

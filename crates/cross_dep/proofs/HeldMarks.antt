@@ -1,11 +1,10 @@
 -- The marks of several streams, where those of one were replaced.
-use Rattle.std.proofs.Common.{◌≡◌, ◌≢◌, ℕ, zero, suc, ◌+◌, ◌*◌, inl, inr, ◌<◌, ◌≤◌, List, [], ◌∷◌, length, set, get_or, refl, sym, ap, subst, ◌∙◌, arith}
+use Rattle.std.proofs.Common.{◌≡◌, ◌≢◌, ℕ, zero, suc, inl, inr, ◌<◌, ◌≤◌, List, [], ◌∷◌, length, set, get_or, refl, sym, ap, subst, ◌∙◌, arith}
 use Rattle.std.proofs.lemmas.Bool.{cases_eq}
 use Rattle.std.proofs.lemmas.List.{map-set, get_or-set_same, get_or-set_other, get_or_default, set-get_or}
-use Rattle.tree_model.specs.declared.rows.Update.{Update}
 use Rattle.tree_model.specs.declared.keys.Key.{Key}
-use Rattle.cross_dep.specs.Kept.{Held, IsMarked}
-use Rattle.cross_dep.specs.Held.{keys_in, held_at, none_held, NoneFell}
+use Rattle.cross_dep.specs.Kept.{Held}
+use Rattle.cross_dep.specs.Held.{keys_in, places_in, held_at, none_held, NoneFell}
 
 pub length-keys : (marks : List Held) → length (keys_in marks) ≡ length marks
 length-keys [] = refl
@@ -16,6 +15,12 @@ pub keys_at : (marks : List Held) (stream : ℕ) → get_or (keys_in marks) stre
 keys_at [] stream = refl
 keys_at (held ∷ more) zero = refl
 keys_at (held ∷ more) (suc stream) = keys_at more stream
+
+-- the places of a stream
+pub places_at : (marks : List Held) (stream : ℕ) → get_or (places_in marks) stream 0 ≡ (held_at marks stream).places
+places_at [] stream = refl
+places_at (held ∷ more) zero = refl
+places_at (held ∷ more) (suc stream) = places_at more stream
 
 -- no marks, where each stream has none
 pub all_none : (marks : List Held) (stream : ℕ) → ((k : ℕ) (d : Held) → k < length marks → (get_or marks k d).keys ≡ []) → (held_at marks stream).keys ≡ []
@@ -67,15 +72,15 @@ dropped_other marks new stream s n e = ap (λ (z : List (List Key)). get_or z s 
 
 -- so no stream has more
 pub few_dropped : (marks new : List Held) (stream : ℕ) → stream < length marks → keys_in new ≡ set (keys_in marks) stream []
-    → (s : ℕ) → length (held_at new s).keys ≤ length (held_at marks s).keys + 6 * 0
+    → (s : ℕ) → length (held_at new s).keys ≤ length (held_at marks s).keys
 few_dropped marks new stream l e s = elim (cases_eq s stream) [
-  | inl same ↦ subst (λ z. length (held_at new z).keys ≤ length (held_at marks z).keys + 6 * 0) (sym same)
+  | inl same ↦ subst (λ z. length (held_at new z).keys ≤ length (held_at marks z).keys) (sym same)
       (omega (arith, ap length (sym (keys_at new stream) ∙ dropped_own marks new stream l e)))
   | inr n ↦ omega (arith, ap length (sym (keys_at new s) ∙ dropped_other marks new stream s n e ∙ keys_at marks s))
 ]
 
 -- where the marks are the same, no stream has more either
-pub few_same : (marks new : List Held) → keys_in new ≡ keys_in marks → (s : ℕ) → length (held_at new s).keys ≤ length (held_at marks s).keys + 6 * 0
+pub few_same : (marks new : List Held) → keys_in new ≡ keys_in marks → (s : ℕ) → length (held_at new s).keys ≤ length (held_at marks s).keys
 few_same marks new e s =
     omega (arith, ap length (sym (keys_at new s) ∙ ap (λ (z : List (List Key)). get_or z s []) e ∙ keys_at marks s))
 
@@ -83,12 +88,3 @@ few_same marks new e s =
 pub item_keys : (marks : List Held) (s : ℕ) (item : Held) → s < length marks → (get_or marks s item).keys ≡ get_or (keys_in marks) s []
 item_keys marks s item l =
     ap (λ (z : Held). z.keys) (get_or_default marks s item none_held l) ∙ sym (keys_at marks s)
-
--- the marks of an update more are six marks more at most
-pub few_marked : (marks new : List Held) (stream : ℕ) (update : Update) → IsMarked (held_at marks stream).keys update (held_at new stream).keys
-    → ((other : ℕ) → other ≢ stream → held_at new other ≡ held_at marks other)
-    → (s : ℕ) → length (held_at new s).keys ≤ length (held_at marks s).keys + 6 * 1
-few_marked marks new stream update marked others s = elim (cases_eq s stream) [
-  | inl same ↦ subst (λ z. length (held_at new z).keys ≤ length (held_at marks z).keys + 6 * 1) (sym same) (omega (arith, marked.few))
-  | inr n ↦ omega (arith, ap (λ (z : Held). length z.keys) (others s n))
-]

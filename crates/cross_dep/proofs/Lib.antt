@@ -2,6 +2,6 @@ pub mod Rising
 pub mod Clashing
 pub mod Keyed
 pub mod HeldMarks
-pub mod Served
+pub mod Room
 pub mod Told
 pub mod BookOf

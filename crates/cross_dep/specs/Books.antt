@@ -1,5 +1,5 @@
 -- The book of the unsealed updates of streams, as a contract sees it.
-use Rattle.std.specs.Prelude.{◌≡◌, ℕ, ◌<◌, Bool, not, ◌&&◌, ◌==◌, List, [], filter, slice_index_or}
+use Rattle.std.specs.Prelude.{◌≡◌, ◌≢◌, ℕ, ◌+◌, ◌*◌, ◌<◌, ◌≤◌, Bool, not, ◌&&◌, ◌==◌, List, [], filter, length, slice_index_or}
 use Rattle.std.specs.Int.{bit_at}
 use Rattle.std.specs.List.{list_any}
 use Rattle.tree_model.specs.declared.rows.Update.{Update}
@@ -10,16 +10,30 @@ use Rattle.tree_model.specs.Keys.{clash, touches, meets}
 abbrev pub Call : Type 0
 Call = ℕ × Update
 
--- The marks of each stream, those of stream 0 first, and the calls that room was made for. A mark is a key that an update of
--- the stream has. It is told as changed where one of them changes it: where stream 1 has made `/a` with the serial 7 and `/a/f`
+-- The marks of each stream, those of stream 0 first, and how many marks its memory has places for. A mark is a key that an
+-- update of the stream has. It is told as changed where one of them changes it: where stream 1 has made `/a` with the serial 7 and `/a/f`
 -- with the serial 8, its marks are the two changed entries, the changed nodes 7 and 8, and the needed node 0 of the root.
 pub record Book : Type 0 where
   pub marks : List (List Key)
-  pub room : List Call
+  pub places : List ℕ
 
 -- the marks of a stream, and none of a stream past the last: of the marks [[a], [b, c]] stream 1 has b and c
 abbrev pub marks_of : Book → ℕ → List Key
 marks_of book stream = slice_index_or book.marks stream []
+
+-- A stream has room for so many updates: beside its marks its memory has places for the six keys that each of them may have.
+-- With 10 marks and 22 places there is room for two updates.
+abbrev pub HasRoom : Book → ℕ → ℕ → Type 0
+HasRoom book stream updates = length (marks_of book stream) + 6 * updates ≤ slice_index_or book.places stream 0
+
+-- no stream has room for fewer updates than before
+abbrev pub IsRoomKept : Book → Book → Type 0
+IsRoomKept old new = (stream updates : ℕ) → HasRoom old stream updates → HasRoom new stream updates
+
+-- A stream has used the room for one update: of the room for two there is left that for one. The others have theirs.
+pub record IsRoomUsed (old : Book) (stream : ℕ) (new : Book) : Type 0 where
+  pub own : (updates : ℕ) → HasRoom old stream (updates + 1) → HasRoom new stream updates
+  pub others : (other updates : ℕ) → other ≢ stream → HasRoom old other updates → HasRoom new other updates
 
 -- whether one of a stream's unsealed updates passes a test: of [(1, u), (2, v)] one of stream 1 does where u does
 abbrev pub one_of : ℕ → (Update → Bool) → List Call → Bool

@@ -1,13 +1,11 @@
 //! The book of the unsealed updates of all streams.
-ghost use Rattle.std.specs.Prelude.{◌≡◌, ◌≢◌, ◌<◌, ◌≤◌, ◌+◌, ◌*◌, ◌++◌, ℕ, true, false, List, [], ◌∷◌, length, slice_set, IsOk, IfOk, OnOk, OnErr};
+ghost use Rattle.std.specs.Prelude.{◌≡◌, ◌≢◌, ◌<◌, ◌≤◌, ◌+◌, ◌*◌, ◌++◌, ℕ, false, List, [], ◌∷◌, length, slice_set, IfOk, OnOk};
 ghost use Rattle.std.specs.List.{filter_map};
-ghost use Rattle.ccfs_base.specs.Rooms.{IsFirst, IsUsed};
 ghost use Rattle.tree_model.specs.Laws.{changes_node};
-ghost use Rattle.cross_dep.specs.Books.{Call, IsBookOf, has_bit, is_met, one_of, without};
+ghost use Rattle.cross_dep.specs.Books.{Call, HasRoom, IsBookOf, IsRoomKept, IsRoomUsed, has_bit, is_met, one_of, without};
 ghost use Rattle.cross_dep.specs.Held.{NoneFell, any_clashes, held_at, keys_in};
 ghost use Rattle.cross_dep.specs.Kept.{IsMarked};
 
-use super::calls::are_same;
 use super::marks::Marks;
 use ccfs_base::NoMemory;
 use std::alloc::{AllocError, Global};
@@ -21,32 +19,20 @@ const STREAMS: usize = 64;
 /// The most keys that an update has.
 const KEYS: usize = 6;
 
-/// A call that memory was taken for.
-#[derive(Drop)]
-struct RoomCall {
-    stream: u8,
-    update: Update,
-}
-
-/// What the unsealed updates of up to 64 streams, numbered from 0, change and need, and the room: the calls that memory was
-/// taken for.
+/// What the unsealed updates of up to 64 streams, numbered from 0, change and need.
 #[derive(Drop)]
 pub struct KeyBook {
-    // The marks of each stream. They have places for the keys of the stream's calls in the room.
+    // The marks of each stream. Their memory has places for more of them.
     marks: [Marks; STREAMS],
-    // The calls that memory was taken for, the first of them first.
-    room: Vec<RoomCall>,
 }
 
 impl Model for KeyBook {
     ghost use Rattle.cross_dep.specs.Books.{Book};
-    ghost use Rattle.cross_dep.specs.Held.{book_in, AreServed};
+    ghost use Rattle.cross_dep.specs.Held.{book_in};
 
     ghost Value = { Book };
 
-    ghost view = { λ a. book_in a.marks a.room.items };
-
-    ghost invariant = { λ a. AreServed a.marks 0 a.room.items };
+    ghost view = { λ a. book_in a.marks };
 }
 
 /// No marks of any stream. It takes no memory.
@@ -57,10 +43,10 @@ fn no_marks(alloc: Global) -> [Marks; STREAMS]
 }
 
 /// How many keys so many updates have at most.
-fn keys_of_calls(calls: usize) -> Result<usize, NoMemory>
-    ensures { IfOk result (λ keys. keys ≡ 6 * calls) }
+fn keys_of_all(updates: usize) -> Result<usize, NoMemory>
+    ensures { IfOk result (λ keys. keys ≡ 6 * updates) }
 {
-    calls.checked_mul(KEYS).ok_or(AllocError)
+    updates.checked_mul(KEYS).ok_or(AllocError)
 }
 
 /// Makes places for so many more marks of a stream. Without memory all is as before.
@@ -118,58 +104,35 @@ fn with_bit(bits: u64, at: usize, on: bool) -> u64
 }
 
 impl KeyBook {
-    /// No updates, and no room. It takes no memory.
+    /// No updates. It takes no memory.
     pub fn new(alloc: Global) -> KeyBook
-        ensures book { IsBookOf result [] }
-        ensures room { result.room ≡ [] }
+        ensures { IsBookOf result [] }
     {
         KeyBook {
             marks: no_marks(alloc),
-            room: Vec::new(alloc),
         }
     }
 
-    /// Adds an unsealed update of a stream. Without memory all is as before. The first call of the room takes no memory, and
-    /// another one empties the room.
-    pub fn add(&mut self, stream: u8, update: &Update) -> Result<(), NoMemory>
-        requires { stream < 64 }
-        ensures first { IsFirst (stream, update.now) self.old.room → IsOk result }
-        ensures book { OnOk result ((unsealed : List Call) → IsBookOf self.old unsealed → IsBookOf self.new (unsealed ++ (stream, update.now) ∷ [])) }
-        ensures room { OnOk result (IsUsed (stream, update.now) self.old.room self.new.room) }
-        ensures err { OnErr result (self.new ≡ self.old) }
+    /// Adds an unsealed update of a stream that has room for it. It takes no memory.
+    pub fn add(&mut self, stream: u8, update: &Update)
+        requires stream { stream < 64 }
+        requires room { HasRoom self.old stream 1 }
+        ensures book { (unsealed : List Call) → IsBookOf self.old unsealed → IsBookOf self.new (unsealed ++ (stream, update.now) ∷ []) }
+        ensures room { IsRoomUsed self.old stream self.new }
     {
-        if self.is_first(stream, update) {
-            mark_at(&mut self.marks, stream, update);
-            self.room.remove(0);
-            return Ok(());
-        }
-        reserve_at(&mut self.marks, stream, KEYS)?;
         mark_at(&mut self.marks, stream, update);
-        self.room.clear();
-        Ok(())
     }
 
-    /// Takes the memory for a call of `add` with these arguments, and puts the call at the end of the room. Without memory all
-    /// is as before.
-    pub fn add_room(&mut self, stream: u8, update: &Update) -> Result<(), NoMemory>
+    /// Makes room for so many updates of a stream. It stands over seals of the stream and of others. Without memory there is as
+    /// much room as before.
+    pub fn reserve(&mut self, stream: u8, updates: usize) -> Result<(), NoMemory>
         requires { stream < 64 }
         ensures marks { self.new.marks ≡ self.old.marks }
-        ensures ok { OnOk result (self.new.room ≡ self.old.room ++ (stream, update.now) ∷ []) }
-        ensures err { OnErr result (self.new.room ≡ self.old.room) }
+        ensures kept { IsRoomKept self.old self.new }
+        ensures ok { OnOk result (HasRoom self.new stream updates) }
     {
-        let more = keys_of_calls(self.room.len() + 1)?;
-        let update = update.copy()?;
-        reserve_at(&mut self.marks, stream, more)?;
-        self.room.push(RoomCall { stream, update })?;
-        Ok(())
-    }
-
-    /// Empties the room. It takes no memory.
-    pub fn clear_room(&mut self)
-        ensures marks { self.new.marks ≡ self.old.marks }
-        ensures room { self.new.room ≡ [] }
-    {
-        self.room.clear();
+        let more = keys_of_all(updates)?;
+        reserve_at(&mut self.marks, stream, more)
     }
 
     /// The other streams that have an unsealed update which meets this one: bit s is set for stream s. It takes no memory.
@@ -198,23 +161,12 @@ impl KeyBook {
         changers
     }
 
-    /// Drops a stream's updates, which are sealed. The room stays. It takes no memory.
+    /// Drops a stream's updates, which are sealed. The room of each stream stays. It takes no memory.
     pub fn forget(&mut self, stream: u8)
         requires { stream < 64 }
         ensures book { (unsealed : List Call) → IsBookOf self.old unsealed → IsBookOf self.new (without stream unsealed) }
-        ensures room { self.new.room ≡ self.old.room }
+        ensures room { IsRoomKept self.old self.new }
     {
         clear_at(&mut self.marks, stream);
-    }
-
-    /// Whether the first call of the room adds this update for the stream.
-    fn is_first(&self, stream: u8, update: &Update) -> bool
-        ensures forth { result ≡ true → IsFirst (stream, update.now) self.now.room }
-        ensures back { IsFirst (stream, update.now) self.now.room → result ≡ true }
-    {
-        let Some(call) = self.room.first() else {
-            return false;
-        };
-        call.stream == stream && are_same(&call.update, update)
     }
 }

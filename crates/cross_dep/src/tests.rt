@@ -1,5 +1,5 @@
 //! What no clause says: that calls come through with ample memory, and what the clauses mean at examples.
-ghost use Rattle.std.specs.Prelude.{◌≡◌, [], OnOk};
+ghost use Rattle.std.specs.Prelude.{◌<◌};
 
 use super::*;
 use ccfs_base::{Bytes, Name, NoMemory};
@@ -39,6 +39,15 @@ fn move_dir(dir: u32, to_dir: u32, id: u32) -> Result<Update, Fail> {
     })
 }
 
+/// Adds an update behind making room for it.
+fn add(book: &mut KeyBook, stream: u8, update: &Update) -> Result<(), NoMemory>
+    requires { stream < 64 }
+{
+    book.reserve(stream, 1)?;
+    book.add(stream, update);
+    Ok(())
+}
+
 #[test]
 fn nothing_is_met_at_first(rt: HostRuntime) -> Result<(), Fail> {
     let book = KeyBook::new(rt.alloc());
@@ -50,7 +59,7 @@ fn nothing_is_met_at_first(rt: HostRuntime) -> Result<(), Fail> {
 #[test]
 fn a_row_is_made_in_a_directory_that_another_stream_made(rt: HostRuntime) -> Result<(), Fail> {
     let mut book = KeyBook::new(rt.alloc());
-    book.add(1, &make(0, b"a", 1)?)?;
+    add(&mut book, 1, &make(0, b"a", 1)?)?;
     let below = make(1, b"f", 2)?;
     assert_eq!(rt; book.met(2, &below), 1 << 1);
     assert_eq!(rt; book.met(1, &below), 0);
@@ -63,7 +72,7 @@ fn a_row_is_made_in_a_directory_that_another_stream_made(rt: HostRuntime) -> Res
 fn several_streams_are_met_and_sealed_ones_are_not(rt: HostRuntime) -> Result<(), Fail> {
     let mut book = KeyBook::new(rt.alloc());
     for (stream, id) in [(0, 7), (5, 7), (5, 9), (63, 7), (62, 8)] {
-        book.add(stream, &Update::Resize { id, len: 3 })?;
+        add(&mut book, stream, &Update::Resize { id, len: 3 })?;
     }
     let written = write(rt.alloc(), 7, 0)?;
     assert_eq!(rt; book.met(5, &written), 1 << 63 | 1);
@@ -80,7 +89,7 @@ fn several_streams_are_met_and_sealed_ones_are_not(rt: HostRuntime) -> Result<()
 #[test]
 fn a_needed_node_has_no_changer_until_it_is_changed(rt: HostRuntime) -> Result<(), Fail> {
     let mut book = KeyBook::new(rt.alloc());
-    book.add(3, &make(4, b"f", 7)?)?;
+    add(&mut book, 3, &make(4, b"f", 7)?)?;
     assert_eq!(rt; [book.changers(4), book.changers(7)], [0, 1 << 3]);
     assert_eq!(rt; book.met(2, &make(4, b"g", 8)?), 0);
     let gone = Update::Remove {
@@ -90,7 +99,7 @@ fn a_needed_node_has_no_changer_until_it_is_changed(rt: HostRuntime) -> Result<(
         stays: false,
     };
     assert_eq!(rt; book.met(2, &gone), 1 << 3);
-    book.add(3, &gone)?;
+    add(&mut book, 3, &gone)?;
     assert_eq!(rt; book.changers(4), 1 << 3);
     assert_eq!(rt; book.met(2, &make(4, b"g", 8)?), 1 << 3);
     Ok(())
@@ -99,7 +108,7 @@ fn a_needed_node_has_no_changer_until_it_is_changed(rt: HostRuntime) -> Result<(
 #[test]
 fn a_rename_changes_two_entries(rt: HostRuntime) -> Result<(), Fail> {
     let mut book = KeyBook::new(rt.alloc());
-    book.add(1, &move_dir(4, 4, 9)?)?;
+    add(&mut book, 1, &move_dir(4, 4, 9)?)?;
     assert_eq!(rt; book.met(2, &make(4, b"x", 7)?), 1 << 1);
     assert_eq!(rt; book.met(2, &make(4, b"y", 7)?), 1 << 1);
     assert_eq!(rt; book.met(2, &make(4, b"z", 7)?), 0);
@@ -110,7 +119,7 @@ fn a_rename_changes_two_entries(rt: HostRuntime) -> Result<(), Fail> {
 #[test]
 fn two_moves_of_directories_meet_in_the_shape(rt: HostRuntime) -> Result<(), Fail> {
     let mut book = KeyBook::new(rt.alloc());
-    book.add(1, &move_dir(4, 5, 9)?)?;
+    add(&mut book, 1, &move_dir(4, 5, 9)?)?;
     assert_eq!(rt; book.met(2, &move_dir(6, 7, 10)?), 1 << 1);
     assert_eq!(rt; book.met(2, &move_dir(6, 6, 10)?), 0);
     Ok(())
@@ -118,22 +127,20 @@ fn two_moves_of_directories_meet_in_the_shape(rt: HostRuntime) -> Result<(), Fai
 
 /// Makes room for two updates of stream 1, drops what the stream had, and adds both: once there is room, no memory is wanted.
 fn add_both(book: &mut KeyBook, first: &Update, second: &Update) -> Result<(), NoMemory> {
-    book.clear_room();
-    book.add_room(1, first)?;
-    book.add_room(1, second)?;
+    book.reserve(1, 2)?;
     book.forget(1);
-    book.add(1, first).unwrap();
-    book.add(1, second).unwrap();
+    book.add(1, first);
+    book.add(1, second);
     Ok(())
 }
 
 #[test]
-fn the_calls_of_the_room_are_made_as_others(rt: HostRuntime) -> Result<(), Fail> {
+fn room_for_two_updates_stands_over_a_seal(rt: HostRuntime) -> Result<(), Fail> {
     let mut book = KeyBook::new(rt.alloc());
     let first = make(0, b"a", 1)?;
     let second = write(rt.alloc(), 2, 8)?;
-    book.add(1, &Update::Release { id: 9 })?;
-    book.add_room(1, &first)?;
+    add(&mut book, 1, &Update::Release { id: 9 })?;
+    book.reserve(1, 1)?;
     assert_eq!(rt; book.met(2, &first), 0);
     add_both(&mut book, &first, &second)?;
     assert_eq!(rt;
@@ -141,27 +148,5 @@ fn the_calls_of_the_room_are_made_as_others(rt: HostRuntime) -> Result<(), Fail>
         [1 << 1, 1 << 1]
     );
     assert_eq!(rt; book.changers(9), 0);
-    Ok(())
-}
-
-/// Makes room for two updates of a stream, adds the first of them, and then the same one for another stream: the room is lost.
-fn lose_room(book: &mut KeyBook, update: &Update) -> Result<(), NoMemory>
-    ensures { OnOk result (book.new.room ≡ []) }
-{
-    book.clear_room();
-    book.add_room(1, update)?;
-    book.add_room(1, update)?;
-    book.add(1, update)?;
-    book.add(2, update)
-}
-
-#[test]
-fn a_call_that_is_not_the_first_of_the_room_loses_it(rt: HostRuntime) -> Result<(), Fail> {
-    let mut book = KeyBook::new(rt.alloc());
-    let update = make(0, b"a", 1)?;
-    lose_room(&mut book, &update)?;
-    assert_eq!(rt; book.met(3, &update), 1 << 2 | 1 << 1);
-    book.add(3, &update)?;
-    assert_eq!(rt; book.met(1, &update), 1 << 3 | 1 << 2);
     Ok(())
 }

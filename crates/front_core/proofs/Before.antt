@@ -1,15 +1,15 @@
 -- What stays as only rooms and places change, and which streams may be sealed still.
-use Rattle.std.proofs.Common.{◌≡◌, ◌≢◌, ℕ, ◌<◌, ◌≤◌, inl, inr, List, [], ◌∷◌, ◌++◌, set, get_or, refl, sym, ap, subst, ◌∙◌, arith}
+use Rattle.std.proofs.Common.{◌≡◌, ◌≢◌, ℕ, List, [], ◌∷◌, refl, sym, ap, subst, ◌∙◌}
 use Rattle.std.specs.Prelude.{Bool, true, false, cond, not, ◌==◌, filter, slice_set}
 use Rattle.std.proofs.lemmas.Bool.{eqb-true, ne_eqb}
 use Rattle.std.proofs.lemmas.List.{get_or-set_other}
 use Rattle.shared_meta.specs.Area as areas
-use Rattle.shared_meta.specs.Area.{Area, area, AreKept, IsPlaced, AreAsBefore, AreSameAreas}
+use Rattle.shared_meta.specs.Area.{Area, area, AreKept, AreAsBefore}
 use Rattle.stream_txn.specs.declared.updates.Unsealed.{Unsealed}
 use Rattle.stream_txn.specs.Updates.{of_stream, without, has_any}
 use Rattle.stream_txn.specs.Accounts.{account_at}
 use Rattle.stream_txn.specs.Kept as txns
-use Rattle.stream_txn.specs.Kept.{AreTxnsOf, has_place, placed, roomed}
+use Rattle.stream_txn.specs.Kept.{AreTxnsOf, roomed}
 use Rattle.cross_dep.specs.Books as books
 use Rattle.tree_model.specs.Rows.{Rows}
 use Rattle.tree_cuts.specs.Calls.{Charged}
@@ -17,7 +17,7 @@ use Rattle.front_core.specs.Free.{AreTaken}
 use Rattle.front_core.specs.Pending.{txns_of, all_noted, IsHeld, IsDue, IsAsBefore}
 use Rattle.front_core.specs.declared.pending.Pending.{Pending}
 
--- transactions with other places and another room
+-- transactions with other places and other memory for operations
 pub record AreTxnsKept (old new : txns.Kept) : Type 0 where
   pub accounts : new.accounts ≡ old.accounts
   pub ops : new.ops ≡ old.ops
@@ -36,8 +36,8 @@ txns_same old new e = record {
   queue = ap (λ z. z.queue) e;
 }
 
-pub txns_roomed : (old new : txns.Kept) (room : List Unsealed) → new ≡ roomed old room → AreTxnsKept old new
-txns_roomed old new room e = record {
+pub txns_roomed : (old new : txns.Kept) (spaces : List ℕ) → new ≡ roomed old spaces → AreTxnsKept old new
+txns_roomed old new spaces e = record {
   accounts = ap (λ z. z.accounts) e;
   ops = ap (λ z. z.ops) e;
   gave_blocks = ap (λ z. z.gave_blocks) e;

@@ -49,14 +49,14 @@ owned_after inodes t h (s ∷ l) o = owned_after inodes t (without s h) l (owned
 -- ---- seals after each other
 
 same_room : (a b c : Pending) → IsSameRoom a b → IsSameRoom b c → IsSameRoom a c
-same_room a b c r q = record { meta = q.meta ∙ r.meta; txns = q.txns ∙ r.txns; keys = q.keys ∙ r.keys; places = q.places ∙ r.places; count = q.count ∙ r.count }
+same_room a b c r q = record { meta = q.meta ∙ r.meta; txns = λ s n h. q.txns s n (r.txns s n h); keys = λ s n h. q.keys s n (r.keys s n h); places = q.places ∙ r.places; count = q.count ∙ r.count }
 
 pub sealed_none : (p : Pending) → AreSealed p [] p
 sealed_none p = record {
   kept = λ count inodes t unsealed own of. of;
   queue = λ count inodes t unsealed own of few. sym (append-nil p.txns.queue);
   seals = λ few. (let e : p.txns.seals ≡ p.txns.seals + 0 = omega arith in e);
-  room = record { meta = refl; txns = refl; keys = refl; places = refl; count = refl };
+  room = record { meta = refl; txns = λ s n h. h; keys = λ s n h. h; places = refl; count = refl };
 }
 
 pub sealed_more : (a b c : Pending) (l m : List ℕ) → AreSealed a l b → AreSealed b m c → AreSealed a (l ++ m) c

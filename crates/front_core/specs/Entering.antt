@@ -1,12 +1,13 @@
 -- An update that is about to enter a stream, for which the memory was taken.
-use Rattle.std.specs.Prelude.{◌≡◌, ℕ, ◌+◌, ◌^◌, ◌<◌, true, List, [], ◌∷◌, length, slice_index_or}
+use Rattle.std.specs.Prelude.{◌≡◌, ℕ, ◌+◌, ◌^◌, ◌<◌, true, List, ◌∷◌, length, slice_index_or}
 use Rattle.shared_meta.specs.Area.{area}
 use Rattle.tree_model.specs.declared.rows.Update.{Update}
 use Rattle.tree_model.specs.Rows.{Rows, IsTree}
 use Rattle.tree_model.specs.Updates.{apply, Fits}
 use Rattle.tree_cuts.specs.Calls.{Charge, Charged}
 use Rattle.stream_txn.specs.Accounts.{account_at}
-use Rattle.stream_txn.specs.Updates.{update_of}
+use Rattle.stream_txn.specs.Kept.{HasOpRoom}
+use Rattle.cross_dep.specs.Books.{HasRoom}
 use Rattle.carried_volumes.specs.Carried.{HaveInodes}
 use Rattle.front_parts.specs.Built.{is_built}
 use Rattle.front_parts.specs.Operations.{ops_of}
@@ -20,11 +21,12 @@ use Rattle.front_core.specs.Pending.{IsPendingOf}
 use Rattle.front_core.specs.declared.pending.Pending.{Pending}
 use Rattle.front_core.specs.declared.pending.Entering.{Entering}
 
--- The room of each part is that of the update alone, and its stream has a place for an inode that it gives up.
-pub record IsReadyFor (e : Entering) (u : Update) (p : Pending) : Type 0 where
+-- The room of the logs is that of the update alone. The transactions have room for its operations, the book for one more update of its
+-- stream, and there is a place for an inode that it gives up.
+pub record IsReadyFor (e : Entering) (p : Pending) : Type 0 where
   pub meta : p.meta.room ≡ calls_of e.stream e.recs
-  pub txns : p.txns.room ≡ update_of e.stream 512 0 e.gave_rows e.ops ∷ []
-  pub keys : p.keys.room ≡ (e.stream, u) ∷ []
+  pub txns : HasOpRoom p.txns e.stream (length e.ops)
+  pub keys : HasRoom p.keys e.stream 1
   pub place : length (given_at p.free e.stream) < slice_index_or p.free.places e.stream 0
 
 -- what an update is charged while files are empty: 512, no block, and these rows

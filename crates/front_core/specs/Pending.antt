@@ -5,8 +5,8 @@ use Rattle.stream_cuts.specs.Streams.{Seal, unsealed_after}
 use Rattle.shared_meta.specs.Area.{area}
 use Rattle.stream_txn.specs.declared.updates.Unsealed.{Unsealed}
 use Rattle.stream_txn.specs.Accounts.{account_at}
-use Rattle.stream_txn.specs.Kept.{AreTxnsOf, has_place}
-use Rattle.cross_dep.specs.Books.{Call, IsBookOf}
+use Rattle.stream_txn.specs.Kept.{AreTxnsOf, IsOpRoomKept, has_place}
+use Rattle.cross_dep.specs.Books.{Call, IsBookOf, IsRoomKept}
 use Rattle.tree_model.specs.Rows.{Rows}
 use Rattle.tree_cuts.specs.Calls.{Charged}
 use Rattle.front_parts.specs.Operations.{ops_of}
@@ -59,11 +59,11 @@ pub record IsAsBefore (old new : Pending) : Type 0 where
   pub queue : new.txns.queue ≡ old.txns.queue
   pub seals : new.txns.seals ≡ old.txns.seals
 
--- the room is that of one update to come, and a stream has a place for one more inode that it gives up
+-- The room of the logs is as before, the transactions and the book have room for no less, and the free inodes have the same places.
 pub record IsSameRoom (old new : Pending) : Type 0 where
   pub meta : new.meta.room ≡ old.meta.room
-  pub txns : new.txns.room ≡ old.txns.room
-  pub keys : new.keys.room ≡ old.keys.room
+  pub txns : IsOpRoomKept old.txns new.txns
+  pub keys : IsRoomKept old.keys new.keys
   pub places : new.free.places ≡ old.free.places
   pub count : new.free.count ≡ old.free.count
 

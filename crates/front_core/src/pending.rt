@@ -98,32 +98,18 @@ impl Pending {
         streams
     }
 
-    /// Empties the rooms. It takes no memory.
-    fn clear_rooms(&mut self)
-        ensures same { IsAsBefore self.old self.new }
-        ensures due { (s : ℕ) → IsDue self.old s → IsDue self.new s }
-        ensures meta { self.new.meta.room ≡ [] }
-        ensures txns { self.new.txns.room ≡ [] }
-        ensures keys { self.new.keys.room ≡ [] }
-    {
-        self.meta.clear_room();
-        self.txns.clear_room();
-        self.keys.clear_room();
-    }
-
     /// Takes the memory for an update that is about to enter. What memory was taken for before is left.
-    pub(crate) fn make_room(&mut self, entering: &Entering, update: &Update) -> Result<(), NoMemory>
+    pub(crate) fn make_room(&mut self, entering: &Entering) -> Result<(), NoMemory>
         requires { entering.now.stream < 64 }
         ensures same { IsAsBefore self.old self.new }
         ensures due { (s : ℕ) → IsDue self.old s → IsDue self.new s }
-        ensures ready { OnOk result (IsReadyFor entering.now update.now self.new) }
+        ensures ready { OnOk result (IsReadyFor entering.now self.new) }
     {
-        self.clear_rooms();
+        self.meta.clear_room();
         let stream = entering.stream;
         room_for_all(&mut self.meta, stream, entering.recs.all())?;
-        self.txns
-            .add_room(stream, WEIGHT, 0, entering.gave_rows, &entering.ops)?;
-        self.keys.add_room(stream, update)?;
+        self.txns.reserve_ops(stream, entering.ops.all().len())?;
+        self.keys.reserve(stream, 1)?;
         self.free.reserve(stream)
     }
 
@@ -159,7 +145,7 @@ impl Pending {
     /// last. It takes no memory.
     pub(crate) fn enter(&mut self, entering: Entering, update: &Update, inodes: &[u32])
         requires stream { entering.stream < 64 }
-        requires ready { IsReadyFor entering update.now self.old }
+        requires ready { IsReadyFor entering self.old }
         requires weight { (account_at self.old.txns.accounts entering.stream).weight + 512 < 2 ^ 32 }
         requires blocks { self.old.txns.gave_blocks < 2 ^ 32 }
         requires rows { self.old.txns.gave_rows + entering.gave_rows < 2 ^ 32 }
@@ -181,8 +167,8 @@ impl Pending {
             ops,
         } = entering;
         log_all(&mut self.meta, stream, recs.all());
-        self.txns.add(stream, WEIGHT, 0, gave_rows, ops).unwrap();
-        self.keys.add(stream, update).unwrap();
+        self.txns.add(stream, WEIGHT, 0, gave_rows, ops);
+        self.keys.add(stream, update);
         self.free.enter(stream, update, inodes);
     }
 }

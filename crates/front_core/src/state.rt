@@ -227,7 +227,7 @@ impl State {
         requires serials { AreSerialsBelow (length self.old.inodes.items) update.now }
         requires built { is_built update.now ≡ true }
         ensures told { IfOk result (IsEnteringOf geometry.now.inodes self.old.inodes.items plan.now.stream update.now) }
-        ensures ready { IfOk result (λ e. IsReadyFor e update.now self.new.pending) }
+        ensures ready { IfOk result (λ e. IsReadyFor e self.new.pending) }
         ensures due { OnOk result ((s : ℕ) → s < 64 → has_bit plan.now.forced s ≡ true → (account_at self.old.pending.txns.accounts s).is_open ≡ true → IsDue self.new.pending s) }
         ensures own_due { OnOk result (plan.now.own ≡ true → (account_at self.old.pending.txns.accounts plan.now.stream).is_open ≡ true → IsDue self.new.pending plan.now.stream) }
         ensures before { IsAsBefore self.old.pending self.new.pending }
@@ -239,7 +239,7 @@ impl State {
     {
         let entering = self.entering(alloc, geometry, plan.stream, update)?;
         self.pending.reserve(plan.sealed())?;
-        self.pending.make_room(&entering, update)?;
+        self.pending.make_room(&entering)?;
         self.tree.apply(update)?;
         Ok(entering)
     }
@@ -277,7 +277,7 @@ impl State {
         requires due { (s : ℕ) → s < 64 → has_bit plan.now.forced s ≡ true → IsDue self.old.pending s }
         requires own { plan.now.own ≡ true → IsDue self.old.pending plan.now.stream }
         requires same { entering.stream ≡ plan.now.stream }
-        requires ready { IsReadyFor entering update.now self.old.pending }
+        requires ready { IsReadyFor entering self.old.pending }
         requires serials { AreSerialsBelow (length self.old.inodes.items) update.now }
         requires built { is_built update.now ≡ true }
         requires below { (i : ℕ) → has i (given_by self.old.inodes.items update.now) ≡ true → i < self.old.pending.free.count }

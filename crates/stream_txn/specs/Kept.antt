@@ -1,15 +1,16 @@
 -- What is kept of the updates that are not sealed, as a contract sees it.
-use Rattle.std.specs.Prelude.{◌≡◌, ℕ, ◌+◌, ◌-◌, ◌%◌, ◌^◌, Option, None, Some, Bool, true, false, List, [], ◌∷◌, slice_index_or, slice_set}
+use Rattle.std.specs.Prelude.{◌≡◌, ℕ, ◌≢◌, ◌+◌, ◌-◌, ◌%◌, ◌^◌, Option, None, Some, Bool, true, false, List, [], ◌∷◌, slice_index_or, slice_set}
 use Rattle.ccfs_base.specs.declared.records.Rec.{Rec}
 use Rattle.file_bodies.specs.declared.ops.BodyOp.{BodyOp}
 use Rattle.file_bodies.specs.declared.batches.Sealed.{Sealed}
 use Rattle.stream_txn.specs.declared.accounts.Account.{Account}
 use Rattle.stream_txn.specs.declared.updates.Unsealed.{Unsealed}
 use Rattle.stream_txn.specs.Updates.{weight_of, ops_of}
+use Rattle.stream_txn.specs.Held.{HasRoom}
 use Rattle.stream_txn.specs.Accounts.{account_at, AreSumsOf}
 
 -- The sums, the operations and whether there is a place in the queue, by streams, stream 0 first; the totals over all streams;
--- how many batches were sealed; the batches that wait; and the updates of the calls that room was made for.
+-- how many batches were sealed; the batches that wait; and how many operations the memory of each stream has places for.
 pub record Kept : Type 0 where
   pub accounts : List Account
   pub ops : List (List BodyOp)
@@ -18,7 +19,7 @@ pub record Kept : Type 0 where
   pub gave_rows : ℕ
   pub seals : ℕ
   pub queue : List Sealed
-  pub room : List Unsealed
+  pub spaces : List ℕ
 
 -- these are the updates that are not sealed, in their order: the sums and operations that are kept are theirs
 abbrev pub AreTxnsOf : Kept → List Unsealed → Type 0
@@ -42,9 +43,21 @@ rows_but kept (Some stream) = kept.gave_rows - (account_at kept.accounts stream)
 abbrev pub placed : Kept → ℕ → Kept
 placed kept stream = record kept { places = slice_set kept.places stream true }
 
--- the same with another room
-abbrev pub roomed : Kept → List Unsealed → Kept
-roomed kept room = record kept { room = room }
+-- the same with other memory for the operations
+abbrev pub roomed : Kept → List ℕ → Kept
+roomed kept spaces = record kept { spaces = spaces }
+
+-- a stream has room for an update with so many operations
+abbrev pub HasOpRoom : Kept → ℕ → ℕ → Type 0
+HasOpRoom kept stream count = HasRoom kept.ops kept.spaces stream count
+
+-- each stream has room for all updates that it had room for
+abbrev pub IsOpRoomKept : Kept → Kept → Type 0
+IsOpRoomKept old new = (stream count : ℕ) → HasOpRoom old stream count → HasOpRoom new stream count
+
+-- the same but for one stream
+abbrev pub IsOpRoomKeptBut : Kept → ℕ → Kept → Type 0
+IsOpRoomKeptBut old but new = (stream count : ℕ) → stream ≢ but → HasOpRoom old stream count → HasOpRoom new stream count
 
 -- the same with no batches that wait
 abbrev pub handed_out : Kept → Kept

@@ -27,7 +27,7 @@ kept_in accounts blocks rows ops places seals queue = record {
   gave_rows = rows;
   seals = seals;
   queue = queue;
-  room = ops.room;
+  spaces = ops.spaces;
 }
 
 -- The sums are those of some updates, and the numbers of the batches that wait are in order up to the last. The queue or each

@@ -31,7 +31,7 @@ fn are_batches(batches: &[Sealed], expected: &[(u8, u64, u32)]) -> bool {
         })
 }
 
-/// Adds an update, where the sums have room for it.
+/// Adds an update behind making room for its operations, where the sums have room for it.
 fn add(txns: &mut Txns, stream: u8, weight: u32, gave: (u32, u32), ops: BodyOps) -> Result<(), Fail>
     requires { stream < 64 }
 {
@@ -40,7 +40,8 @@ fn add(txns: &mut Txns, stream: u8, weight: u32, gave: (u32, u32), ops: BodyOps)
     let blocks_left = u32::MAX - txns.gave_blocks(None);
     let rows_left = u32::MAX - txns.gave_rows(None);
     if weight <= weight_left && gave_blocks <= blocks_left && gave_rows <= rows_left {
-        txns.add(stream, weight, gave_blocks, gave_rows, ops)?;
+        txns.reserve_ops(stream, ops.all().len())?;
+        txns.add(stream, weight, gave_blocks, gave_rows, ops);
     }
     Ok(())
 }
@@ -164,34 +165,35 @@ fn places_stand_when_batches_are_handed_out(rt: HostRuntime) -> Result<(), Fail>
     Ok(())
 }
 
+/// Makes room for the operations of an update, seals the stream, and adds the update.
+fn add_behind_a_seal(txns: &mut Txns, alloc: Global, ops: BodyOps) -> Result<(), Fail> {
+    txns.reserve_ops(1, ops.all().len())?;
+    txns.reserve(1)?;
+    seal(txns, 1, Recs::new(alloc));
+    if txns.weight(1) == 0 && txns.gave_blocks(None) == 0 && txns.gave_rows(None) == 0 {
+        txns.add(1, 20, 0, 0, ops);
+    }
+    Ok(())
+}
+
 #[test]
-fn the_first_call_of_the_room_uses_it_and_another_loses_it(rt: HostRuntime) -> Result<(), Fail> {
+fn room_for_operations_stands_over_a_seal(rt: HostRuntime) -> Result<(), Fail> {
     let alloc = rt.alloc();
     let mut txns = Txns::new(alloc);
-    let ops = drop_of(alloc, 5)?;
-    txns.add_room(1, 10, 2, 1, &ops)?;
-    txns.add_room(1, 20, 4, 0, &ops)?;
-    assert_eq!(rt; txns.weight(1), 0);
-    add(&mut txns, 1, 10, (2, 1), ops.copy()?)?;
-    txns.reserve(1)?;
-    seal(&mut txns, 1, Recs::new(alloc));
-    add(&mut txns, 1, 20, (4, 0), ops.copy()?)?;
-    txns.add_room(2, 30, 0, 0, &ops)?;
-    add(&mut txns, 1, 30, (0, 0), drop_of(alloc, 6)?)?;
-    txns.add_room(2, 40, 0, 0, &ops)?;
-    txns.clear_room();
-    assert_eq!(rt;
-        [txns.weight(1), txns.weight(2), txns.gave_blocks(None)],
-        [50, 0, 4]
-    );
+    add(&mut txns, 1, 10, (2, 1), drop_of(alloc, 5)?)?;
+    let mut ops = drop_of(alloc, 6)?;
+    ops.push(BodyOp::Drop { inode: 7 })?;
+    add_behind_a_seal(&mut txns, alloc, ops)?;
+    add(&mut txns, 1, 30, (0, 0), drop_of(alloc, 8)?)?;
     txns.reserve(1)?;
     seal(&mut txns, 1, Recs::new(alloc));
     let sealed = txns.take_sealed();
     assert!(rt; are_batches(&sealed, &[(1, 1, 10), (1, 2, 50)]));
     assert!(rt;
-        sealed
-            .iter()
-            .all(|batch| are_drops(&batch.ops, &[5]) == (batch.number == 1))
+        sealed.iter().all(|batch| are_drops(
+            &batch.ops,
+            if batch.number == 1 { &[5] } else { &[6, 7, 8] }
+        ))
     );
     Ok(())
 }

@@ -1,10 +1,9 @@
 //! The unsealed updates of all streams.
-ghost use Rattle.std.specs.Prelude.{◌≡◌, ◌<◌, ◌+◌, ◌-◌, ◌^◌, ℕ, List, [], ◌∷◌, ◌++◌, true, false, Option, None, Some, MatchOption, IsOk, OnOk, OnErr, slice_set};
-ghost use Rattle.ccfs_base.specs.Rooms.{IsFirst, IsUsed};
+ghost use Rattle.std.specs.Prelude.{◌≡◌, ◌<◌, ◌+◌, ◌-◌, ◌^◌, ℕ, List, [], ◌∷◌, ◌++◌, true, false, Option, None, Some, MatchOption, length, OnOk, OnErr, slice_set};
 ghost use Rattle.stream_txn.specs.declared.updates.Unsealed.{Unsealed};
 ghost use Rattle.stream_txn.specs.Updates.{update_of, of_stream, without, all_but, has_any, weight_of, blocks_of, rows_of};
 ghost use Rattle.stream_txn.specs.Accounts.{account_at};
-ghost use Rattle.stream_txn.specs.Kept.{AreTxnsOf, blocks_but, rows_but, has_place, placed, roomed, handed_out, next, batch_of, AreInOrder};
+ghost use Rattle.stream_txn.specs.Kept.{AreTxnsOf, blocks_but, rows_but, has_place, placed, roomed, HasOpRoom, IsOpRoomKept, IsOpRoomKeptBut, handed_out, next, batch_of, AreInOrder};
 
 use super::accounts::{Account, no_accounts, raise, take_account};
 use super::op_logs::OpLogs;
@@ -53,7 +52,6 @@ impl Txns {
         ensures places { (stream : ℕ) → has_place result stream ≡ false }
         ensures seals { result.seals ≡ 0 }
         ensures queue { result.queue ≡ [] }
-        ensures room { result.room ≡ [] }
     {
         Txns {
             alloc,
@@ -67,27 +65,19 @@ impl Txns {
         }
     }
 
-    /// Adds an update of a stream. Its weight and what it gave up are to fit the sums. Without memory all is as before. The first
-    /// call of the room takes no memory, and any other that is answered Ok empties the room.
-    pub fn add(
-        &mut self,
-        stream: u8,
-        weight: u32,
-        gave_blocks: u32,
-        gave_rows: u32,
-        ops: BodyOps,
-    ) -> Result<(), NoMemory>
+    /// Adds an update of a stream. Its weight and what it gave up are to fit the sums, and the stream is to have room for its
+    /// operations. It takes no memory.
+    pub fn add(&mut self, stream: u8, weight: u32, gave_blocks: u32, gave_rows: u32, ops: BodyOps)
         requires stream { stream < 64 }
+        requires room { HasOpRoom self.old stream (length ops) }
         requires weight { (account_at self.old.accounts stream).weight + weight < 2 ^ 32 }
         requires blocks { self.old.gave_blocks + gave_blocks < 2 ^ 32 }
         requires rows { self.old.gave_rows + gave_rows < 2 ^ 32 }
-        ensures first { IsFirst (update_of stream weight gave_blocks gave_rows ops) self.old.room → IsOk result }
-        ensures txns { OnOk result ((unsealed : List Unsealed) → AreTxnsOf self.old unsealed → AreTxnsOf self.new (unsealed ++ update_of stream weight gave_blocks gave_rows ops ∷ [])) }
-        ensures room { OnOk result (IsUsed (update_of stream weight gave_blocks gave_rows ops) self.old.room self.new.room) }
+        ensures txns { (unsealed : List Unsealed) → AreTxnsOf self.old unsealed → AreTxnsOf self.new (unsealed ++ update_of stream weight gave_blocks gave_rows ops ∷ []) }
+        ensures room { IsOpRoomKeptBut self.old stream self.new }
         ensures places { self.new.places ≡ self.old.places }
         ensures seals { self.new.seals ≡ self.old.seals }
         ensures queue { self.new.queue ≡ self.old.queue }
-        ensures err { OnErr result (self.new ≡ self.old) }
     {
         self.ops.add(Unsealed {
             stream,
@@ -95,42 +85,21 @@ impl Txns {
             gave_blocks,
             gave_rows,
             ops,
-        })?;
+        });
         raise(&mut self.accounts, stream, weight, gave_blocks, gave_rows);
         self.gave_blocks += gave_blocks;
         self.gave_rows += gave_rows;
-        Ok(())
     }
 
-    /// Takes the memory for a call of `add` with these arguments, and puts the call at the end of the room. Without memory all
-    /// is as before.
-    pub fn add_room(
-        &mut self,
-        stream: u8,
-        weight: u32,
-        gave_blocks: u32,
-        gave_rows: u32,
-        ops: &BodyOps,
-    ) -> Result<(), NoMemory>
+    /// Makes room for a stream's next update with so many operations. It stands over seals of the stream and of others. Without
+    /// memory there is as much room as before.
+    pub fn reserve_ops(&mut self, stream: u8, count: usize) -> Result<(), NoMemory>
         requires { stream < 64 }
-        ensures ok { OnOk result (self.new ≡ roomed self.old (self.old.room ++ update_of stream weight gave_blocks gave_rows ops.now ∷ [])) }
-        ensures err { OnErr result (self.new ≡ self.old) }
+        ensures same { self.new ≡ roomed self.old self.new.spaces }
+        ensures kept { IsOpRoomKept self.old self.new }
+        ensures ok { OnOk result (HasOpRoom self.new stream count) }
     {
-        let ops = ops.copy()?;
-        self.ops.add_room(Unsealed {
-            stream,
-            weight,
-            gave_blocks,
-            gave_rows,
-            ops,
-        })
-    }
-
-    /// Empties the room. It takes no memory.
-    pub fn clear_room(&mut self)
-        ensures { self.new ≡ roomed self.old [] }
-    {
-        self.ops.clear_room();
+        self.ops.reserve(stream, count)
     }
 
     /// Makes a place in the queue for a stream's next batch. It stands until the stream's next seal, whatever else is added,
@@ -214,7 +183,7 @@ impl Txns {
         ensures queue { (unsealed : List Unsealed) → AreTxnsOf self.old unsealed → self.new.queue ≡ self.old.queue ++ batch_of stream (next self.old.seals) recs (of_stream stream unsealed) ∷ [] }
         ensures seals { self.new.seals ≡ next self.old.seals }
         ensures places { self.new.places ≡ slice_set self.old.places stream false }
-        ensures room { self.new.room ≡ self.old.room }
+        ensures room { IsOpRoomKept self.old self.new }
     {
         let account = take_account(&mut self.accounts, stream);
         let place = take_place(&mut self.places, stream).unwrap();

@@ -1,6 +1,4 @@
 //! The updates that are not sealed.
-ghost use Rattle.std.specs.Prelude.{◌≡◌, true};
-
 use file_bodies::BodyOps;
 
 /// How many streams there are.
@@ -19,18 +17,4 @@ pub struct Unsealed {
     pub gave_rows: u32,
     /// What it changes in the contents of files.
     pub ops: BodyOps,
-}
-
-impl Unsealed {
-    /// Whether it is just that update.
-    pub fn is_same(&self, other: &Unsealed) -> bool
-        ensures forth { result ≡ true → self.now ≡ other.now }
-        ensures back { self.now ≡ other.now → result ≡ true }
-    {
-        self.stream == other.stream
-            && self.weight == other.weight
-            && self.gave_blocks == other.gave_blocks
-            && self.gave_rows == other.gave_rows
-            && self.ops.is_same(&other.ops)
-    }
 }

@@ -3,8 +3,5 @@ use Rattle.cross_dep.proofs.HeldMarks.{keys_at}
 use Rattle.cross_dep.proofs.BookOf.{book_of_none}
 use Rattle.cross_dep.proofs.book.KeyBook.new.Goals as goal
 
-pub invariant_of-result : goal.invariant_of-result
-invariant_of-result c = rw c.new.ensures.items tt
-
-pub returns-clause-book : goal.returns-clause-book
-returns-clause-book c = book_of_none _ (λ s. keys_at c.no_marks.result s ∙ c.no_marks.ensures s)
+pub returns : goal.returns
+returns c = book_of_none _ (λ s. keys_at c.no_marks.result s ∙ c.no_marks.ensures s)

@@ -26,6 +26,6 @@ invariant_of-result c =
     let state : State = record { tree = c.in_ok-copy.field-0; next = length c.all.result.now; streams = replicate 64 0; inodes = c.in_ok-from_slice.field-0; pending = parts } in
     front_of g c.args.limit t all c.new-3.result.items state c.requires.plain c.requires.have c.requires.dense c.requires.limit.1
     c.new-3.ensures.items c.in_ok-copy.ensures (ap length c.all.ensures) (λ actor below. get_or-replicate 64 actor 0 0 below) (c.in_ok-from_slice.ensures.items ∙ c.all-2.ensures)
-    (none_pending g.inodes all t c.args.metadata parts c.of.ensures c.requires.metadata c.new.ensures.txns c.new-2.ensures.book
+    (none_pending g.inodes all t c.args.metadata parts c.of.ensures c.requires.metadata c.new.ensures.txns c.new-2.ensures
     (taken_by g.inodes all c.all-3.result.now t c.in_ok-of.field-0 c.all-3.ensures c.requires.have c.requires.dense c.in_ok-of.ensures.taken))
     c.new.ensures.seals c.new.ensures.queue

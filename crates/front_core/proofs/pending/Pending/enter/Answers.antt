@@ -8,6 +8,6 @@ returns-clause-entered c count t unsealed cost tree have owned fits built makes 
     let e = c.args.entering in
     let new : Pending = record { meta = c.log_all.new.meta; txns = c.add.new.self; keys = c.add-2.new.self; free = c.enter.new.self } in
     entered count c.args.inodes.now c.args.self.now new t unsealed e.stream c.args.update.now cost c.all.result.now e.ops e.gave_rows c.log_all.ensures
-    (rw c.unwrap.ensures at c.add.ensures.txns) (rw c.unwrap-2.ensures at c.add-2.ensures.book)
+    c.add.ensures.txns c.add-2.ensures.book
     (c.enter.ensures.taken count t unsealed cost tree have owned fits built makes)
     weighs (c.all.ensures ∙ told) operations of

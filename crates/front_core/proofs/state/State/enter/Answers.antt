@@ -1,4 +1,4 @@
-use Rattle.std.proofs.Common.{◌<◌, sym, subst, ◌∙◌}
+use Rattle.std.proofs.Common.{◌<◌, length, sym, subst, ◌∙◌}
 use Rattle.std.specs.Prelude.{slice_index_or}
 use Rattle.front_core.specs.Entering.{HasEntered}
 use Rattle.front_core.proofs.state.State.enter.Goals as goal
@@ -8,8 +8,8 @@ enter-requires-clause-ready c =
     let room = c.seal_planned.ensures.sealed.room in
     record {
       meta = room.meta ∙ c.requires.ready.meta;
-      txns = room.txns ∙ c.requires.ready.txns;
-      keys = room.keys ∙ c.requires.ready.keys;
+      txns = room.txns c.args.entering.stream (length c.args.entering.ops) c.requires.ready.txns;
+      keys = room.keys c.args.entering.stream 1 c.requires.ready.keys;
       place = c.requires.place c.seal_planned.new.self.pending c.seal_planned.ensures.sealed;
     }
 

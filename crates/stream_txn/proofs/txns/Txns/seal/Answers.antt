@@ -4,7 +4,7 @@ use Rattle.std.proofs.lemmas.List.{map-set, length-set}
 use Rattle.file_bodies.specs.declared.batches.Sealed.{Sealed}
 use Rattle.stream_txn.specs.Updates.{without}
 use Rattle.stream_txn.specs.Accounts.{AreSumsOf}
-use Rattle.stream_txn.specs.Kept.{Kept, AreTxnsOf, next}
+use Rattle.stream_txn.specs.Kept.{Kept, AreTxnsOf, HasOpRoom, next}
 use Rattle.stream_txn.specs.Space.{kept_in, IsPlace, IsHeld}
 use Rattle.stream_txn.proofs.Sums.{sealed, part_of_all}
 use Rattle.stream_txn.proofs.Holding.{has_room, held_sealed}
@@ -68,3 +68,6 @@ pub returns-clause-places : goal.returns-clause-places
 returns-clause-places c =
     ap (λ (z : List (Option (Vec Sealed Global))). map (λ p. is_some p) z) c.take_place.ensures.left ∙ map-set _ c.self.inside.places c.args.stream None
     ∙ ap (λ (k : Kept). set k.places c.args.stream false) c.self.view_is
+
+pub returns-clause-room : goal.returns-clause-room
+returns-clause-room c = λ s count h. c.take.ensures.room s count (subst (λ (k : Kept). HasOpRoom k s count) (sym c.self.view_is) h)
