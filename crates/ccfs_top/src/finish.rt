@@ -18,7 +18,7 @@ ghost use Rattle.ccfs_top.specs.Left.{Kept, Halts, Done, DoneOn, HaltsOn};
 ghost use Rattle.front_core.specs.Fronts.{new_front};
 ghost use Rattle.ccfs_top.specs.Runs.{image_by, ran, over};
 ghost use Rattle.ccfs_top.specs.Sessions.{Settled};
-ghost use Rattle.ccfs_top.specs.Steady.{Rises, Steady, Sure};
+ghost use Rattle.ccfs_top.specs.Steady.{Rises, Steady, Sure, Unmoved};
 ghost use Rattle.ccfs_top.specs.Stops.{IsFaultStop, IsLate};
 
 use crate::open::open;
@@ -51,6 +51,7 @@ pub fn write_tree<K: Sink>(
     ensures sink { K.tells → IsErrOf result Stop.Sink → (said : List ℕ) × (K.held out.new ≡ K.held out.old ++ said) × IsPart said (tree_lines number picture.now) }
     ensures unwritten { K.tells → IsErrOf result Stop.NoMemory → K.held out.new ≡ K.held out.old }
     ensures sink_cause { IsErrOf result Stop.Sink → Rose (K.faults out.old) (K.faults out.new) }
+    ensures sink_steady { Unmoved (K.faults out.old) (K.faults out.new) (IsErrOf result Stop.Sink) }
     ensures kinds { IfErr result (λ stop. (stop ≡ Stop.Sink) ⊎ (stop ≡ Stop.NoMemory)) }
     ensures sink_later { K.faults out.old ≤ K.faults out.new }
 {
@@ -70,6 +71,7 @@ fn write_shown<D: Disk, K: Sink>(alloc: Global, disk: &mut D, out: &mut K) -> Re
     ensures sink { D.tells → K.tells → D.in_doubt disk.old ≡ false → (number : ℕ) (p : List Item) → shown_for_now (D.seen disk.old) ≡ Some (number, p) → IsErrOf result Stop.Sink
         → (said : List ℕ) × (K.held out.new ≡ K.held out.old ++ said) × IsPart said (tree_lines number p) }
     ensures sink_cause { IsErrOf result Stop.Sink → Rose (K.faults out.old) (K.faults out.new) }
+    ensures sink_steady { Unmoved (K.faults out.old) (K.faults out.new) (IsErrOf result Stop.Sink) }
     ensures unwritten { K.tells → (IsErrOf result Stop.Sink → ⊥) → OnErr result (K.held out.new ≡ K.held out.old) }
     ensures fault { D.tells → D.in_doubt disk.old ≡ false → (number : ℕ) (p : List Item) → shown_for_now (D.seen disk.old) ≡ Some (number, p) → IfErr result (λ stop. IsFaultStop stop) }
     ensures quiet { D.tells → Quiet D.Disk disk.old disk.new }
@@ -111,6 +113,7 @@ fn run_session<D: Disk, K: Sink>(
     ensures done { D.tells → IfOk result (λ done. Done D.Disk session.volume.disk done.disk calls.now (image_by session.first session.front) done.batches K.tells (K.held out.old) (K.held out.new)) }
     ensures halts { D.tells → IfErr result (λ refused. Halts (ran (image_by session.first session.front) calls.now) refused.fault (Kept D.Disk session.volume.disk refused.kept (image_by session.first session.front) calls.now) K.tells (K.held out.old) (K.held out.new)) }
     ensures sink_cause { IfErr result (λ refused. refused.fault ≡ Stop.Sink → Rose (K.faults out.old) (K.faults out.new)) }
+    ensures sink_steady { OnOk result (K.faults out.new ≡ K.faults out.old) }
     ensures late { IfErr result (λ refused. IsLate refused.fault) }
     ensures sink_later { K.faults out.old ≤ K.faults out.new }
     ensures device { IfErr result (λ r. Rises D.Disk session.volume.disk r.kept (r.fault ≡ Stop.Disk)) }
@@ -150,6 +153,7 @@ pub fn run_disk<D: Disk, K: Sink>(
     ensures done { D.tells → IfOk result (λ done. DoneOn D.Disk disk done.disk calls.now done.batches K.tells (K.held out.old) (K.held out.new)) }
     ensures halts { D.tells → IfErr result (λ refused. HaltsOn D.Disk disk refused.kept calls.now (over (λ image. ran image calls.now)) refused.fault K.tells (K.held out.old) (K.held out.new)) }
     ensures sink_cause { IfErr result (λ refused. refused.fault ≡ Stop.Sink → Rose (K.faults out.old) (K.faults out.new)) }
+    ensures sink_steady { OnOk result (K.faults out.new ≡ K.faults out.old) }
     ensures late { IfErr result (λ refused. IsLate refused.fault) }
     ensures sink_later { K.faults out.old ≤ K.faults out.new }
     ensures device { IfErr result (λ r. Rises D.Disk disk r.kept (r.fault ≡ Stop.Disk)) }

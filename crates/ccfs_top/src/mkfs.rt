@@ -3,7 +3,7 @@ ghost use Rattle.std.specs.Prelude.{◌≡◌, ◌≤◌, ◌*◌, ◌^◌, ◌+
 ghost use Rattle.fault_counts.specs.Counts.{Rose};
 ghost use Rattle.ccfs_top.specs.Left.{IsNew};
 ghost use Rattle.ccfs_top.specs.Runs.{fresh};
-ghost use Rattle.ccfs_top.specs.Steady.{Sure};
+ghost use Rattle.ccfs_top.specs.Steady.{Sure, Unmoved};
 ghost use Rattle.ccfs_top.specs.Stops.{Grew, IsFaultStop};
 
 use crate::stop::Stop;
@@ -28,6 +28,7 @@ pub fn make_image<D: Disk, K: Sink>(
     ensures grew { K.tells → IfErr result (λ stop. Grew (fresh geometry.now.blocks geometry.now.inodes) stop 0 (K.held out.old) (K.held out.new)) }
     ensures fault { IfErr result (λ stop. IsFaultStop stop) }
     ensures sink_cause { IsErrOf result Stop.Sink → Rose (K.faults out.old) (K.faults out.new) }
+    ensures sink_steady { Unmoved (K.faults out.old) (K.faults out.new) (IsErrOf result Stop.Sink) }
     ensures sink_later { K.faults out.old ≤ K.faults out.new }
     ensures device { IsErrOf result Stop.Disk → Rose (D.faults disk.old) (D.faults disk.new) }
     ensures untouched { IsErrOf result Stop.NoMemory → disk.new ≡ disk.old }

@@ -6,6 +6,7 @@ ghost use Rattle.tree_model.specs.Rows.{Rows};
 ghost use Rattle.ccfs_top.specs.Ends.{joined};
 ghost use Rattle.ccfs_top.specs.Images.{Finding, Holds, Finds, RecoversTo};
 ghost use Rattle.ccfs_top.specs.Runs.{over, printed};
+ghost use Rattle.ccfs_top.specs.Steady.{Unmoved};
 ghost use Rattle.ccfs_top.specs.Stops.{Decides, Grew, IsLate};
 
 use crate::finish::write_tree;
@@ -23,6 +24,7 @@ pub fn print_tree<D: Disk, K: Sink>(alloc: Global, disk: &mut D, out: &mut K) ->
     ensures count { D.written disk.new ≡ D.written disk.old }
     ensures late { IfErr result (λ stop. IsLate stop) }
     ensures sink_cause { IsErrOf result Stop.Sink → Rose (K.faults out.old) (K.faults out.new) }
+    ensures sink_steady { Unmoved (K.faults out.old) (K.faults out.new) (IsErrOf result Stop.Sink) }
     ensures sink_later { K.faults out.old ≤ K.faults out.new }
     ensures device { IsErrOf result Stop.Disk → Rose (D.faults disk.old) (D.faults disk.new) }
     ensures steady { (IsErrOf result Stop.Disk → ⊥) → D.faults disk.new ≡ D.faults disk.old }

@@ -3,7 +3,6 @@ ghost use Rattle.std.specs.Prelude.{◌≡◌, ◌≢◌, ◌⊎◌, ◌≤◌, 
 ghost use Rattle.fault_counts.specs.Counts.{Rose};
 ghost use Rattle.tree_model.specs.Picture.{picture};
 ghost use Rattle.script_text.specs.Scripts.{first_unbuilt};
-ghost use Rattle.script_text.specs.Texts.{reply_line};
 ghost use Rattle.gate_journal.specs.Halves.{journal_of};
 ghost use Rattle.std.specs.List.{All};
 ghost use Rattle.ccfs_base.specs.Fits.{fits_command};
@@ -13,14 +12,14 @@ ghost use Rattle.ccfs_top.specs.Left.{Kept, Halts};
 ghost use Rattle.ccfs_top.specs.Runs.{image_by, replies, final_number, final_tree, ran};
 ghost use Rattle.ccfs_top.specs.Sessions.{Settled, Shows};
 ghost use Rattle.front_core.specs.Fronts.{new_front};
-ghost use Rattle.ccfs_top.specs.Steady.{Rises, Steady};
+ghost use Rattle.ccfs_top.specs.Steady.{Rises, Steady, Unmoved};
 ghost use Rattle.ccfs_top.specs.Stops.{ByDisk, IsFaultStop};
 
 use crate::session::{Session, StepFault};
 use crate::stop::Stop;
-use ccfs_base::{Reply, Sink, write_all};
+use ccfs_base::{Sink, write_all};
 use disk_model::Disk;
-use script_text::{Call, reply_text};
+use script_text::Call;
 use std::alloc::Global;
 
 /// Why a run stops at a call that isn't performed, though it is built.
@@ -37,19 +36,16 @@ fn stop_of_step(fault: StepFault) -> Stop
     }
 }
 
-/// Writes the line of a reply.
-fn write_reply<K: Sink>(alloc: Global, actor: u8, reply: &Reply, out: &mut K) -> Result<(), Stop>
-    ensures text { K.tells → OnOk result (K.held out.new ≡ K.held out.old ++ reply_line actor reply.now) }
-    ensures sink { K.tells → IsErrOf result Stop.Sink → (said : List ℕ) × (K.held out.new ≡ K.held out.old ++ said) × IsPart said (reply_line actor reply.now) }
-    ensures unwritten { K.tells → IsErrOf result Stop.NoMemory → K.held out.new ≡ K.held out.old }
+/// Writes the line of a reply. It has its memory already, so that only the sink can fail.
+fn write_reply<K: Sink>(line: &[u8], out: &mut K) -> Result<(), Stop>
+    ensures text { K.tells → OnOk result (K.held out.new ≡ K.held out.old ++ line.now) }
+    ensures sink { K.tells → IsErrOf result Stop.Sink → (said : List ℕ) × (K.held out.new ≡ K.held out.old ++ said) × IsPart said line.now }
     ensures sink_cause { IsErrOf result Stop.Sink → Rose (K.faults out.old) (K.faults out.new) }
-    ensures kinds { IfErr result (λ stop. (stop ≡ Stop.Sink) ⊎ (stop ≡ Stop.NoMemory)) }
+    ensures sink_steady { Unmoved (K.faults out.old) (K.faults out.new) (IsErrOf result Stop.Sink) }
+    ensures kinds { IfErr result (λ stop. stop ≡ Stop.Sink) }
     ensures sink_later { K.faults out.old ≤ K.faults out.new }
 {
-    let Ok(line) = reply_text(alloc, actor, reply) else {
-        return Err(Stop::NoMemory);
-    };
-    match write_all(out, line.all()) {
+    match write_all(out, line) {
         Ok(()) => Ok(()),
         Err(_) => Err(Stop::Sink),
     }
@@ -82,16 +78,17 @@ pub fn perform_all<D: Disk, K: Sink>(
     ensures later { D.faults session.old.volume.disk ≤ D.faults session.new.volume.disk }
     ensures sink_later { K.faults out.old ≤ K.faults out.new }
     ensures sink_cause { IsErrOf result Stop.Sink → Rose (K.faults out.old) (K.faults out.new) }
+    ensures sink_steady { Unmoved (K.faults out.old) (K.faults out.new) (IsErrOf result Stop.Sink) }
     ensures device { Rises D.Disk session.old.volume.disk session.new.volume.disk (ByDisk result) }
     ensures steady { Steady D.Disk session.old.volume.disk session.new.volume.disk (ByDisk result) }
     ensures unfailed { (ByDisk result → ⊥) → session.new.volume.failed ≡ false }
 {
     for call in calls {
-        let reply = match session.step(alloc, call.actor, &call.command) {
-            Ok(reply) => reply,
+        let answer = match session.step(alloc, call.actor, &call.command) {
+            Ok(answer) => answer,
             Err(fault) => return Err(stop_of_step(fault)),
         };
-        match write_reply(alloc, call.actor, &reply, out) {
+        match write_reply(answer.line.all(), out) {
             Ok(()) => {}
             Err(stop) => return Err(stop),
         }

@@ -5,6 +5,7 @@ ghost use Rattle.ccfs_base.specs.Fits.{fits_command};
 ghost use Rattle.fault_counts.specs.Counts.{Rose};
 ghost use Rattle.script_text.specs.Scripts.{calls_of, first_unbuilt, is_long, IsFirstUnbuilt};
 ghost use Rattle.ccfs_top.specs.Runs.{IsReady};
+ghost use Rattle.ccfs_top.specs.Steady.{BySource, Unmoved};
 
 use ccfs_base::Source;
 use script_text::{Call, MOST_BYTES, ScriptFault, parse_script};
@@ -33,6 +34,7 @@ fn read_script<S: Source>(alloc: Global, script: &mut S) -> Result<Vec<u8>, Scri
     ensures whole { S.tells → IfOk result (λ text. (text.items ≡ S.left script.old) ⊎ ((16777216 < length text.items) × ((rest : List ℕ) × (S.left script.old ≡ text.items ++ rest)))) }
     ensures later { S.faults script.old ≤ S.faults script.new }
     ensures source { IsErrOf result ScriptEnd.Source → Rose (S.faults script.old) (S.faults script.new) }
+    ensures source_steady { Unmoved (S.faults script.old) (S.faults script.new) (BySource result) }
     ensures not_long { IsErrOf result ScriptEnd.Long → ⊥ }
     ensures not_bad_line { (line : ℕ) → IsErrOf result (ScriptEnd.BadLine line) → ⊥ }
     ensures not_not_built { (line : ℕ) → IsErrOf result (ScriptEnd.NotBuilt line) → ⊥ }
@@ -69,6 +71,7 @@ pub fn read_calls<S: Source>(alloc: Global, script: &mut S) -> Result<Vec<Call>,
     ensures not_built { S.tells → (line : ℕ) → IsErrOf result (ScriptEnd.NotBuilt line) → (is_long (S.left script.old) ≡ false) × IsFirstUnbuilt (S.left script.old) line }
     ensures later { S.faults script.old ≤ S.faults script.new }
     ensures source { IsErrOf result ScriptEnd.Source → Rose (S.faults script.old) (S.faults script.new) }
+    ensures source_steady { Unmoved (S.faults script.old) (S.faults script.new) (BySource result) }
 {
     let text = read_script(alloc, script)?;
     match parse_script(alloc, &text) {

@@ -1,7 +1,8 @@
 //! A file system in use: its front, and the volume that holds what is durable.
-ghost use Rattle.std.specs.Prelude.{◌≡◌, ◌≤◌, ◌<◌, ◌+◌, true, false, IsTrue, IfOk, OnOk, OnErr, IfErr, IsErrOf, length};
+ghost use Rattle.std.specs.Prelude.{◌≡◌, ◌⊎◌, ◌≤◌, ◌<◌, ◌+◌, true, false, IsTrue, IfOk, OnOk, OnErr, IfErr, IsErrOf, length};
 ghost use Rattle.fault_counts.specs.Counts.{Rose};
 ghost use Rattle.ccfs_base.specs.Fits.{fits_command};
+ghost use Rattle.script_text.specs.Texts.{reply_line};
 ghost use Rattle.gate_journal.specs.Batches.{batch_bytes};
 ghost use Rattle.gate_journal.specs.Halves.{size_of, journal_of, MayFollow};
 ghost use Rattle.gate_journal.specs.Runs.{LeavesBy};
@@ -20,11 +21,12 @@ ghost use Rattle.ccfs_top.specs.Sessions.{Settled, ShowsOneOf, IsStepped};
 
 use atomic_volume::{Volume, VolumeFault};
 use batch_ranges::Metadata;
-use ccfs_base::{Command, Reply};
+use ccfs_base::{Bytes, Command, Reply};
 use disk_model::Disk;
 use file_bodies::Sealed;
 use front_core::{ActFault, Front};
 use gate_journal::Batch;
+use script_text::reply_text;
 use std::alloc::Global;
 
 /// Why a call wasn't performed.
@@ -36,6 +38,15 @@ pub enum StepFault {
     NoMemory,
     /// What the call asks for isn't built yet.
     NotBuilt,
+}
+
+/// A reply, and its line. The line has its memory before anything of the call is made durable.
+#[derive(Drop)]
+pub struct Answer {
+    /// The reply.
+    pub reply: Reply,
+    /// Its line.
+    pub line: Bytes,
 }
 
 /// A file system in use.
@@ -125,6 +136,7 @@ impl<D: Disk> Session<D> {
         ensures steady { Steady D.Disk self.old.volume.disk self.new.volume.disk (Failed result) }
         ensures unfailed { (Failed result → ⊥) → self.new.volume.failed ≡ false }
         ensures built { IsErrOf result StepFault.NotBuilt → ⊥ }
+        ensures unwritten { OnErr result (self.new.written ≡ self.old.written) }
     {
         self.front.is_kept();
         let number = self.first.wrapping_add(self.written).wrapping_add(1);
@@ -161,6 +173,7 @@ impl<D: Disk> Session<D> {
         ensures steady { Steady D.Disk self.old.volume.disk self.new.volume.disk (Failed result) }
         ensures unfailed { (Failed result → ⊥) → self.new.volume.failed ≡ false }
         ensures built { IsErrOf result StepFault.NotBuilt → ⊥ }
+        ensures undone { OnErr result (self.new.written < seals_of self.new.front) }
     {
         let sealed = self.front.take_sealed();
         for batch in &sealed {
@@ -169,13 +182,15 @@ impl<D: Disk> Session<D> {
         Ok(())
     }
 
-    /// Performs a command of an actor, and answers its reply.
+    /// Performs a command of an actor, and answers its reply with its line.
     ///
+    /// The line has its memory before a batch is written. So want of memory leaves the volume as it was, or a batch that
+    /// the command was to write isn't there: nothing is made durable whose reply can't be written.
     /// At every moment a crash leaves an image with the picture of a cut from the last that was written to the last that is sealed.
     /// A batch that doesn't fit the journal is written behind a checkpoint, and there is none but for such a batch.
     /// `NotBuilt` comes only for a command that isn't built, and all is as before. `Device` comes only where the disk's faults rose, and the
     /// volume has failed after it. After any fault but one that leaves the front as it was, nothing may be performed any more.
-    pub fn step(&mut self, alloc: Global, actor: u8, command: &Command) -> Result<Reply, StepFault>
+    pub fn step(&mut self, alloc: Global, actor: u8, command: &Command) -> Result<Answer, StepFault>
         requires actor { actor < 64 }
         requires fits { IsTrue (fits_command command.now) }
         requires room { length self.old.front.entries < self.old.front.limit }
@@ -183,7 +198,8 @@ impl<D: Disk> Session<D> {
         requires handed { self.old.front.handed ≡ self.old.written }
         requires working { self.old.volume.failed ≡ false }
         requires last { is_last (journal_of self.old.volume.half).last (further self.old.first self.old.written) ≡ true }
-        ensures stepped { IfOk result (λ reply. IsStepped self.old.front self.old.written actor command.now reply self.new.front self.new.written) }
+        ensures stepped { IfOk result (λ answer. IsStepped self.old.front self.old.written actor command.now answer.reply self.new.front self.new.written) }
+        ensures line { IfOk result (λ answer. answer.line ≡ reply_line actor answer.reply) }
         ensures settled { OnOk result (Settled self.new.volume.geometry self.new.volume.volume.items self.new.metadata self.new.front self.new.first self.new.written) }
         ensures journal { OnOk result (HasTaken self.new.front self.old.written self.new.written self.old.volume.half self.new.volume.half) }
         ensures first { self.new.first ≡ self.old.first }
@@ -197,6 +213,8 @@ impl<D: Disk> Session<D> {
         ensures unfailed { (Failed result → ⊥) → self.new.volume.failed ≡ false }
         ensures answered { OnOk result (is_answered command.now ≡ true) }
         ensures unbuilt { IsErrOf result StepFault.NotBuilt → is_answered command.now ≡ false }
+        ensures undone { IsErrOf result StepFault.NoMemory
+            → (self.new.volume ≡ self.old.volume) ⊎ (self.new.written < seals_of self.new.front) }
         ensures not_entered { IsErrOf result StepFault.NotBuilt → self.new ≡ self.old }
     {
         let reply = match self.front.act(actor, command) {
@@ -205,11 +223,14 @@ impl<D: Disk> Session<D> {
             Err(ActFault::NoMemory) => return Err(StepFault::NoMemory),
             Err(ActFault::HistoryFull { .. }) => unreachable!(),
         };
+        let Ok(line) = reply_text(alloc, actor, &reply) else {
+            return Err(StepFault::NoMemory);
+        };
         if !is_sync_form(command) {
-            return Ok(reply);
+            return Ok(Answer { reply, line });
         }
         self.write_all(alloc)?;
-        Ok(reply)
+        Ok(Answer { reply, line })
     }
 
     /// Hands the disk back.

@@ -1,5 +1,5 @@
 //! The top call.
-ghost use Rattle.std.specs.Prelude.{◌≡◌, ◌⊎◌, ◌≤◌, ◌↔◌, ◌*◌, ◌^◌, ◌++◌, ℕ, List, true, false, length, None, Some, Ok, Err, IsErr, IfOk, IfErr};
+ghost use Rattle.std.specs.Prelude.{◌≡◌, ◌⊎◌, ◌≤◌, ◌↔◌, ◌*◌, ◌^◌, ◌++◌, ℕ, List, true, false, length, None, Some, Ok, Err, IsErr, IfOk, IfErr, OnOk};
 ghost use Rattle.fault_counts.specs.Counts.{Rose};
 ghost use Rattle.script_text.specs.declared.scripts.Call.{Call};
 ghost use Rattle.script_text.specs.Scripts.{calls_of};
@@ -10,7 +10,7 @@ ghost use Rattle.ccfs_top.specs.Ends.{EndsWith, IsEarly, IsMadeStatus, IsRefusal
 ghost use Rattle.ccfs_top.specs.Images.{Unread};
 ghost use Rattle.ccfs_top.specs.Left.{DoneOn, HaltsOn, Ran, Printed, IsNew};
 ghost use Rattle.ccfs_top.specs.Runs.{IsReady, IsUnready, alone, calls_in, expected, fresh};
-ghost use Rattle.ccfs_top.specs.Steady.{Rises, Steady, Sure};
+ghost use Rattle.ccfs_top.specs.Steady.{Rises, Steady, StoppedBySource, Sure, Unmoved};
 ghost use Rattle.ccfs_top.specs.Stops.{Decides, IsLate, Told, SaidOf};
 
 use crate::ended::Ended;
@@ -54,7 +54,9 @@ fn run_script<D: Disk, S: Source, K: Sink>(
     ensures refused { S.tells → IfErr result (λ refused. (IsLate refused.fault → ⊥) → Decides (expected (S.left script.old) Unread) refused.fault) }
     ensures no_usage { IfErr result (λ refused. refused.fault ≡ Stop.Usage → ⊥) }
     ensures source { IfErr result (λ refused. refused.fault ≡ Stop.Source → Rose (S.faults script.old) (S.faults script.new)) }
+    ensures source_steady { Unmoved (S.faults script.old) (S.faults script.new) (StoppedBySource result) }
     ensures sink_cause { IfErr result (λ refused. refused.fault ≡ Stop.Sink → Rose (K.faults out.old) (K.faults out.new)) }
+    ensures sink_steady { OnOk result (K.faults out.new ≡ K.faults out.old) }
     ensures sink_later { K.faults out.old ≤ K.faults out.new }
     ensures device { IfErr result (λ r. Rises D.Disk disk r.kept (r.fault ≡ Stop.Disk)) }
     ensures steady { IfOk result (λ done. D.faults done.disk ≡ D.faults disk) }
@@ -96,7 +98,9 @@ fn run<D: Disk, S: Source, K: Sink>(alloc: Global, disk: D, script: &mut S, out:
     ensures ran { S.tells → D.tells → Ran D.Disk disk result.disk (S.left script.old) K.tells (Rose (K.faults out.old) (K.faults out.new)) result.status result.batches (K.held out.old) (K.held out.new) }
     ensures no_batches { (result.status ≡ 0 → ⊥) → result.batches ≡ 0 }
     ensures source_fault { result.status ≡ 5 → Rose (S.faults script.old) (S.faults script.new) }
+    ensures source_steady { Unmoved (S.faults script.old) (S.faults script.new) (result.status ≡ 5) }
     ensures sink_fault { result.status ≡ 6 → Rose (K.faults out.old) (K.faults out.new) }
+    ensures sink_steady { result.status ≡ 0 → K.faults out.new ≡ K.faults out.old }
     ensures disk_fault { Rises D.Disk disk result.disk (result.status ≡ 7) }
     ensures disk_steady { Steady D.Disk disk result.disk (result.status ≡ 7) }
     ensures sure { D.tells → Sure D.Disk disk result.disk (result.status ≡ 7) }
@@ -123,6 +127,7 @@ fn mkfs<D: Disk, K: Sink>(alloc: Global, disk: D, geometry: &Geometry, out: &mut
     ensures new { D.tells → result.status ≡ 0 → IsNew D.Disk result.disk geometry.now.blocks geometry.now.inodes }
     ensures no_batches { result.batches ≡ 0 }
     ensures sink_fault { result.status ≡ 6 → Rose (K.faults out.old) (K.faults out.new) }
+    ensures sink_steady { result.status ≡ 0 → K.faults out.new ≡ K.faults out.old }
     ensures unmade { result.status ≡ 9 → result.disk ≡ disk }
     ensures disk_fault { Rises D.Disk disk result.disk (result.status ≡ 7) }
     ensures disk_steady { Steady D.Disk disk result.disk (result.status ≡ 7) }
@@ -148,6 +153,7 @@ fn tree<D: Disk, K: Sink>(alloc: Global, disk: D, out: &mut K) -> Ended<D>
     ensures count { D.written result.disk ≡ D.written disk }
     ensures no_batches { (result.status ≡ 0 → ⊥) → result.batches ≡ 0 }
     ensures sink_fault { result.status ≡ 6 → Rose (K.faults out.old) (K.faults out.new) }
+    ensures sink_steady { result.status ≡ 0 → K.faults out.new ≡ K.faults out.old }
     ensures disk_fault { Rises D.Disk disk result.disk (result.status ≡ 7) }
     ensures disk_steady { Steady D.Disk disk result.disk (result.status ≡ 7) }
     ensures sure { D.tells → Sure D.Disk disk result.disk (result.status ≡ 7) }
@@ -201,7 +207,9 @@ pub fn shell<D: Disk, S: Source, K: Sink>(
     // The causes of the faults. Only a run reads the script.
     ensures unread { (asked_by words.now ≡ Some Run → ⊥) → script.new ≡ script.old }
     ensures source_fault { result.status ≡ 5 → (asked_by words.now ≡ Some Run) × Rose (S.faults script.old) (S.faults script.new) }
+    ensures source_steady { Unmoved (S.faults script.old) (S.faults script.new) (result.status ≡ 5) }
     ensures sink_fault { result.status ≡ 6 → Rose (K.faults out.old) (K.faults out.new) }
+    ensures sink_steady { result.status ≡ 0 → K.faults out.new ≡ K.faults out.old }
     ensures disk_fault { Rises D.Disk disk result.disk (result.status ≡ 7) }
     ensures disk_steady { Steady D.Disk disk result.disk (result.status ≡ 7) }
     // A disk that failed in no call isn't left in doubt: the next row finds what this one left.

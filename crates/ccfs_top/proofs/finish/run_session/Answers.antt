@@ -121,3 +121,6 @@ returns-in-Err-write_shown-clause-calm g c = λ not.
 pub returns-in-Err-write_shown-clause-sure : goal.returns-in-Err-write_shown-clause-sure
 returns-in-Err-write_shown-clause-sure g c = λ told _.
     (c.in-Err-write_shown.ensures.quiet told).doubt (ap g.D.Disk.in_doubt c.end-disk.ensures ∙ c.perform_all.new.session.volume.settled told c.in-Ok.ensures.working)
+
+pub returns-in-Ok-write_shown-clause-sink_steady : goal.returns-in-Ok-write_shown-clause-sink_steady
+returns-in-Ok-write_shown-clause-sink_steady g c = unless_ok _ _ c.in-Ok-write_shown.ensures.sink_steady ∙ unless_ok _ _ c.in-Ok.ensures.sink_steady

@@ -1,7 +1,6 @@
 use Rattle.std.proofs.Common.{◌≡◌, ◌+◌, ◌++◌, ◌≤◌, ◌<◌, ℕ, List, [], ◌∷◌, length, true, inl, sym, ap, ◌∙◌, refl, subst, arith}
 use Rattle.std.specs.declared.result.Result.{Result}
 use Rattle.ccfs_base.specs.Fits.{fits_command}
-use Rattle.ccfs_base.specs.declared.replies.Reply.{Reply}
 use Rattle.std.specs.declared.result.Result.TheVariants.{Err}
 use Rattle.std.specs.declared.option.Option.TheVariants.{Some}
 use Rattle.std.proofs.lemmas.List.{append-nil, length-append}
@@ -18,6 +17,7 @@ use Rattle.atomic_volume.proofs.Steady.{unless_ok}
 use Rattle.atomic_volume.specs.Held.{contents_by}
 use Rattle.recovery.specs.Recovering.{picture_shown}
 use Rattle.front_core.specs.Fronts.{Fronted, next_entry}
+use Rattle.ccfs_top.specs.declared.session.Answer.{Answer}
 use Rattle.ccfs_top.specs.declared.session.StepFault.{StepFault}
 use Rattle.ccfs_top.specs.declared.stop.Stop.{Stop}
 use Rattle.script_text.specs.declared.scripts.Call.{Call}
@@ -39,7 +39,7 @@ use Rattle.ccfs_top.proofs.run.perform_all.Goals as goal
 told_stop : {x y : Stop} → ◌≡◌ {A = Result (Unit {0}) Stop} (Err x) (Err y) → x ≡ y
 told_stop is = cc is
 
-told_step : {x y : StepFault} → ◌≡◌ {A = Result Reply StepFault} (Err x) (Err y) → x ≡ y
+told_step : {x y : StepFault} → ◌≡◌ {A = Result Answer StepFault} (Err x) (Err y) → x ≡ y
 told_step is = cc is
 
 pub loop-call-init : goal.loop-call-init
@@ -67,6 +67,7 @@ loop-call-init g c =
       later = omega arith;
       steady = refl;
       sink_later = omega arith;
+      sink_steady = refl;
     }
 
 -- ---- a call that isn't performed
@@ -113,8 +114,9 @@ returns-in-Err-write_reply-clause-halts g c = λ told.
     let lt = c.loop-call-test.true in let is = c.call-item.is in
     let le : i ≤ length calls = omega (arith, lt) in
     let so_far = first_lines image.sizes image.tree calls i h s.written le v.reached in
-    let step = stepped_on s.front n.front image calls i call s.written n.written c.in-Ok.reply lt is v.opening v.sizes v.reached c.in-Ok.ensures.answered c.in-Ok.ensures.stepped in
-    let kinds = c.in-Err-write_reply.ensures.kinds in
+    let step = stepped_on s.front n.front image calls i call s.written n.written c.in-Ok.answer.reply lt is v.opening v.sizes v.reached c.in-Ok.ensures.answered c.in-Ok.ensures.stepped in
+    let kinds = inl c.in-Err-write_reply.ensures.kinds in
+    let said_line = c.all.ensures ∙ c.in-Ok.ensures.line in
     record {
       lines = i;
       few = so_far.0;
@@ -125,9 +127,9 @@ returns-in-Err-write_reply-clause-halts g c = λ told.
           (λ x w. within_step s.front s.first first.first image.tree image.sizes call.actor call.command s.written x v.first_number v.opening v.sizes w)
           (c.in-Ok.ensures.moments told));
       grew = λ sink_told. write_grew (ran image calls) c.in-Err-write_reply.stop (reply_lines h) i
-          (reply_line call.actor c.in-Ok.reply) (g.K.Sink.held c.args.out.now) (g.K.Sink.held c.loop-call.out) (g.K.Sink.held c.write_reply.new.out) kinds so_far.1
-          (line_next image.sizes image.tree calls i call h n.written (ran image calls).last lt v.reached.entries step.reached ∙ ap (reply_line call.actor) (sym step.said))
-          (v.text sink_told) (λ none. c.in-Err-write_reply.ensures.unwritten sink_told (ap (λ (z : Stop). Err z) none)) (λ failed. c.in-Err-write_reply.ensures.sink sink_told (ap (λ (z : Stop). Err z) failed));
+          c.all.result.now (g.K.Sink.held c.args.out.now) (g.K.Sink.held c.loop-call.out) (g.K.Sink.held c.write_reply.new.out) kinds so_far.1
+          (line_next image.sizes image.tree calls i call h n.written (ran image calls).last lt v.reached.entries step.reached ∙ ap (reply_line call.actor) (sym step.said) ∙ sym said_line)
+          (v.text sink_told) (λ none. absurd (cc (c.in-Err-write_reply.ensures.kinds, none))) (λ failed. c.in-Err-write_reply.ensures.sink sink_told (ap (λ (z : Stop). Err z) failed));
     }
 
 pub returns-in-Err-clause-fault : goal.returns-in-Err-clause-fault
@@ -143,7 +145,7 @@ returns-in-Err-clause-device g c = λ is.
     omega (arith, cause, later)
 
 pub returns-in-Err-write_reply-clause-fault : goal.returns-in-Err-write_reply-clause-fault
-returns-in-Err-write_reply-clause-fault g c = write_fault c.in-Err-write_reply.stop c.in-Err-write_reply.ensures.kinds
+returns-in-Err-write_reply-clause-fault g c = write_fault c.in-Err-write_reply.stop (inl c.in-Err-write_reply.ensures.kinds)
 
 pub returns-in-Err-write_reply-clause-sink_cause : goal.returns-in-Err-write_reply-clause-sink_cause
 returns-in-Err-write_reply-clause-sink_cause g c = λ is.
@@ -152,7 +154,7 @@ returns-in-Err-write_reply-clause-sink_cause g c = λ is.
     omega (arith, cause, later)
 
 pub returns-in-Err-write_reply-clause-device : goal.returns-in-Err-write_reply-clause-device
-returns-in-Err-write_reply-clause-device g c = λ is. absurd (no_disk c.in-Err-write_reply.stop c.in-Err-write_reply.ensures.kinds (told_stop is))
+returns-in-Err-write_reply-clause-device g c = λ is. absurd (no_disk c.in-Err-write_reply.stop (inl c.in-Err-write_reply.ensures.kinds) (told_stop is))
 
 pub returns-in-Err-clause-steady : goal.returns-in-Err-clause-steady
 returns-in-Err-clause-steady g c = λ not.
@@ -173,13 +175,13 @@ loop-call-preserved g c =
     let h = s.front.entries in
     let lt = c.loop-call-test.true in let is = c.call-item.is in
     let done = c.in-Ok.ensures.stepped in
-    let step = stepped_on s.front n.front image calls i call s.written n.written c.in-Ok.reply lt is v.opening v.sizes v.reached c.in-Ok.ensures.answered done in
+    let step = stepped_on s.front n.front image calls i call s.written n.written c.in-Ok.answer.reply lt is v.opening v.sizes v.reached c.in-Ok.ensures.answered done in
     let later = c.in-Ok.ensures.later in
     let sink_later = c.in-Ok-write_reply.ensures.sink_later in
     record {
       reached = subst (λ (z : List Entry). Reached image.sizes image.tree calls (i + 1) z n.written) (sym step.entries) step.reached;
       text = λ told. text_on image.sizes image.tree calls i call h (g.K.Sink.held c.args.out.now) (g.K.Sink.held c.loop-call.out) (g.K.Sink.held c.write_reply.new.out) (v.text told)
-          (c.in-Ok-write_reply.ensures.text told ∙ ap (λ z. g.K.Sink.held c.loop-call.out ++ reply_line call.actor z) step.said)
+          (c.in-Ok-write_reply.ensures.text told ∙ ap (λ z. g.K.Sink.held c.loop-call.out ++ z) (c.all.ensures ∙ c.in-Ok.ensures.line) ∙ ap (λ z. g.K.Sink.held c.loop-call.out ++ reply_line call.actor z) step.said)
           ∙ ap (λ (z : List Entry). g.K.Sink.held c.args.out.now ++ joined (reply_lines z)) (sym step.entries);
       sizes = done.sizes ∙ v.sizes;
       opening = done.opening ∙ v.opening;
@@ -199,6 +201,7 @@ loop-call-preserved g c =
       later = omega (arith, v.later, later);
       steady = unless_ok _ _ c.in-Ok.ensures.steady ∙ v.steady;
       sink_later = omega (arith, v.sink_later, sink_later);
+      sink_steady = unless_ok _ _ c.in-Ok-write_reply.ensures.sink_steady ∙ v.sink_steady;
     }
 
 pub returns-clause-kept : goal.returns-clause-kept
@@ -245,3 +248,9 @@ pub step-requires-clause-room : goal.step-requires-clause-room
 step-requires-clause-room g c =
     let v = c.loop-call.invariant in let few = c.requires.few in let lt = c.loop-call-test.true in
     omega (arith, v.count, v.limit, few, lt)
+
+pub returns-in-Err-clause-sink_steady : goal.returns-in-Err-clause-sink_steady
+returns-in-Err-clause-sink_steady g c = λ _. c.loop-call.invariant.sink_steady
+
+pub returns-in-Err-write_reply-clause-sink_steady : goal.returns-in-Err-write_reply-clause-sink_steady
+returns-in-Err-write_reply-clause-sink_steady g c = λ not. c.in-Err-write_reply.ensures.sink_steady not ∙ c.loop-call.invariant.sink_steady

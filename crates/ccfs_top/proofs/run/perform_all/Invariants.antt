@@ -28,4 +28,5 @@ invariant-loop-call g l = let first = l.initial.session in let s = l.session in 
   later : g.D.Disk.faults first.volume.disk ≤ g.D.Disk.faults v.disk;
   steady : g.D.Disk.faults v.disk ≡ g.D.Disk.faults first.volume.disk;
   sink_later : g.K.Sink.faults l.initial.out ≤ g.K.Sink.faults l.out;
+  sink_steady : g.K.Sink.faults l.out ≡ g.K.Sink.faults l.initial.out;
 }

@@ -1,4 +1,4 @@
-use Rattle.std.proofs.Common.{◌≡◌, ◌-◌, ◌++◌, length, take, min, inl, inr, arith}
+use Rattle.std.proofs.Common.{◌≡◌, ◌-◌, ◌++◌, length, take, min, inl, inr, arith, ◌∙◌}
 use Rattle.ccfs_top.proofs.Reading.{appended, read_further, few_read, read_to_end}
 use Rattle.ccfs_top.proofs.script.read_script.Goals as goal
 
@@ -14,7 +14,11 @@ loop-text-preserved g c =
       few = few_read 16777217 65536 _ _ _ _ c.read.new.into _ c.loop-text.invariant.few most c.in-Ok-read.ensures.count grown;
       whole = c.loop-text.invariant.whole;
       later = omega (arith, c.read.ensures.cause.later);
+      steady = c.in-Ok-read.ensures.steady ∙ c.loop-text.invariant.steady;
     }
 
 pub returns-clause-whole : goal.returns-clause-whole
 returns-clause-whole g c = λ told. inr (omega arith, (_, c.loop-text.invariant.read told))
+
+pub returns-then-count-eq0-clause-source_steady : goal.returns-then-count-eq0-clause-source_steady
+returns-then-count-eq0-clause-source_steady g c = λ _. c.in-Ok-read.ensures.steady ∙ c.loop-text.invariant.steady

@@ -7,6 +7,7 @@ invariant-loop-text g l = record {
   few : length l.text.items ≤ 16777217;
   whole : l.piece.len ≡ 65536;
   later : g.S.Source.faults l.fn.script ≤ g.S.Source.faults l.script;
+  steady : g.S.Source.faults l.script ≡ g.S.Source.faults l.fn.script;
 }
 
 abbrev pub decreases-loop-text : goal.decreases-loop-text

@@ -1,4 +1,4 @@
-use Rattle.std.proofs.Common.{sym, ◌∙◌, arith, rules}
+use Rattle.std.proofs.Common.{inl, inr, refl, sym, ◌∙◌, arith, rules}
 use Rattle.atomic_volume.proofs.Steady.{unless_ok}
 use Rattle.front_core.specs.Fronts.{seals_of}
 use Rattle.ccfs_top.specs.Sessions.{ShowsOneOf}
@@ -20,6 +20,14 @@ returns-in-Err-NotBuilt-clause-moments g c = λ told.
 
 pub returns-in-Err-NoMemory-clause-moments : goal.returns-in-Err-NoMemory-clause-moments
 returns-in-Err-NoMemory-clause-moments g c = λ told.
+    let s = c.args.self.now in let v = s.volume in let actor = c.args.actor in let command = c.args.command.now in
+    let there = settled_asked v.geometry v.volume.items s.metadata s.front s.first s.written actor command c.requires.settled in
+    stays_shown g.D.Disk v.geometry v.half v.volume.items (asked_of s.front actor command) s.first s.written
+    (settled_shows v.geometry v.half v.volume.items s.metadata (asked_of s.front actor command) s.first s.written there c.requires.last)
+    v.disk (v.sound told c.requires.working) s.written (seals_of (asked_of s.front actor command)) (omega arith) there.few (g.met.D.Disk.earlier told v.disk) (g.met.D.Disk.only_now told v.disk)
+
+pub returns-in_default-clause-moments : goal.returns-in_default-clause-moments
+returns-in_default-clause-moments g c = λ told.
     let s = c.args.self.now in let v = s.volume in let actor = c.args.actor in let command = c.args.command.now in
     let there = settled_asked v.geometry v.volume.items s.metadata s.front s.first s.written actor command c.requires.settled in
     stays_shown g.D.Disk v.geometry v.half v.volume.items (asked_of s.front actor command) s.first s.written
@@ -96,3 +104,14 @@ returns-clause-moments g c = λ told.
 
 pub returns-clause-steady : goal.returns-clause-steady
 returns-clause-steady g c = λ _. unless_ok _ _ c.in_ok-write_all.ensures.steady
+
+-- ---- want of memory: before anything is written, or before a batch
+
+pub returns-in-Err-NoMemory-clause-undone : goal.returns-in-Err-NoMemory-clause-undone
+returns-in-Err-NoMemory-clause-undone g c = λ _. inl refl
+
+pub returns-in_default-clause-undone : goal.returns-in_default-clause-undone
+returns-in_default-clause-undone g c = λ _. inl refl
+
+pub returns-in_err-write_all-clause-undone : goal.returns-in_err-write_all-clause-undone
+returns-in_err-write_all-clause-undone g c = λ _. inr c.in_err-write_all.ensures.undone

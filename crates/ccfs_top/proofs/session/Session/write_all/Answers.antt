@@ -1,5 +1,6 @@
-use Rattle.std.proofs.Common.{◌≡◌, ◌+◌, ℕ, refl, sym, ap, ◌∙◌, subst, arith, rules}
+use Rattle.std.proofs.Common.{◌≡◌, ◌+◌, ◌<◌, ℕ, refl, sym, ap, ◌∙◌, subst, arith, rules}
 use Rattle.gate_journal.specs.Halves.{journal_of}
+use Rattle.flat_dirs.proofs.Listing.{on_err}
 use Rattle.atomic_volume.proofs.Steady.{unless_ok}
 use Rattle.front_core.specs.Fronts.{Fronted, seals_of}
 use Rattle.ccfs_top.specs.Taken.{room_in, taken_by, size_at, HasTaken}
@@ -53,6 +54,13 @@ pub returns-in_err-commit-clause-device : goal.returns-in_err-commit-clause-devi
 returns-in_err-commit-clause-device g c = λ is.
     let rose = c.commit.ensures.device (search rules) in let before = c.loop-batch.invariant.later in
     omega (arith, rose, before)
+
+pub returns-in_err-commit-clause-undone : goal.returns-in_err-commit-clause-undone
+returns-in_err-commit-clause-undone g c =
+    let s = c.args.self.now in let l = c.loop-batch in let n = c.commit.new.self in
+    let more = next_more s.front l.self.front c.deref-batch-items.result.now s.written l.self.written l.batch-index l.invariant.front c.requires.handed l.invariant.written (c.deref-batch-items.ensures.value ∙ c.take_sealed-sealed.ensures.taken) c.loop-batch-test.true in
+    let same = c.in_err-commit.ensures.unwritten in
+    on_err c.from_residual.result (subst (λ (z : Fronted). n.written < seals_of z) (sym c.commit.ensures.front) (omega (arith, more, same)))
 
 pub loop-batch-preserved : goal.loop-batch-preserved
 loop-batch-preserved g c =
