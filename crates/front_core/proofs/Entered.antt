@@ -18,7 +18,7 @@ use Rattle.tree_model.specs.declared.rows.Update.{Update}
 use Rattle.tree_model.specs.Rows.{Rows}
 use Rattle.tree_model.specs.Updates.{apply}
 use Rattle.tree_cuts.specs.Calls.{Charge, Charged}
-use Rattle.front_parts.specs.Operations.{ops_of}
+use Rattle.update_records.specs.Operations.{ops_of}
 use Rattle.front_laws.specs.Batches.{its_records, records_of_all}
 use Rattle.front_laws.specs.Logging.{AreLogsOf}
 use Rattle.front_core.specs.Free.{AreTaken}

@@ -9,7 +9,7 @@ use Rattle.tree_model.specs.Weights.{live}
 use Rattle.tree_cuts.specs.Calls.{Charged, charge}
 use Rattle.history_model.specs.Histories.{makes}
 use Rattle.carried_volumes.specs.Plain.{IsPlain}
-use Rattle.front_parts.specs.Built.{is_built}
+use Rattle.update_records.specs.Built.{is_built}
 use Rattle.front_laws.specs.Inodes.{dropped}
 use Rattle.front_laws.specs.Owned.{AreOwned}
 use Rattle.front_laws.specs.Laws.{HistoriesLeaveKeptStates, EmptyHistoriesAreKept, NextCallsAreKept, AFreeInodeIsThere, RowsFitBehindSeals, MoreInodesLeaveUpdates, UpdatesMayBeLogged, LongerKeepsBatches, SealsMakeBatches}

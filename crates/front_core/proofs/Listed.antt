@@ -11,7 +11,7 @@ use Rattle.stream_txn.specs.declared.updates.Unsealed.{Unsealed}
 use Rattle.stream_txn.specs.Updates as txns
 use Rattle.cross_dep.specs.Books as books
 use Rattle.tree_cuts.specs.Calls.{Charged}
-use Rattle.front_parts.specs.Operations.{ops_of}
+use Rattle.update_records.specs.Operations.{ops_of}
 use Rattle.front_core.specs.Pending.{txn_of, txns_of, noted, all_noted}
 
 -- ---- filters

@@ -34,9 +34,9 @@ use Rattle.history_laws.proofs.Runs.{sound_start, sound_after}
 use Rattle.image_model.specs.Carrying.{inode_in}
 use Rattle.carried_volumes.specs.Plain.{IsDense}
 use Rattle.carried_volumes.specs.Carried.{HaveInodes}
-use Rattle.front_parts.specs.Built.{AreSerialsBelow}
-use Rattle.front_parts.specs.Batches as batches
-use Rattle.front_parts.specs.Viewing as viewing
+use Rattle.update_records.specs.Built.{AreSerialsBelow}
+use Rattle.update_records.specs.Batches as batches
+use Rattle.command_answers.specs.Viewing as viewing
 use Rattle.front_laws.specs.Inodes.{dropped, given_by, has, IsFree, IsLowestFree, HasLowest, HasLowestIf, with_inode}
 use Rattle.front_laws.specs.Kept.{IsKept, IsTame, is_answered, now_of}
 use Rattle.front_laws.specs.Laws.{IsLight, IsKeptNow}

@@ -23,8 +23,8 @@ use Rattle.history_model.specs.Answers.{Answer, answer, closes}
 use Rattle.history_model.specs.Histories.{entry_of, steps_by, call_by, sync_call, makes}
 use Rattle.cross_dep.specs.Books.{has_bit, is_met}
 use Rattle.carried_volumes.specs.Plain.{IsPlain}
-use Rattle.front_parts.specs.Built.{is_built}
-use Rattle.front_parts.specs.Viewing.{IsReady, is_viewed}
+use Rattle.update_records.specs.Built.{is_built}
+use Rattle.command_answers.specs.Viewing.{IsReady, is_viewed}
 use Rattle.front_laws.specs.Inodes.{dropped}
 use Rattle.front_laws.specs.Kept.{is_answered}
 use Rattle.front_laws.specs.Laws.{IsLight}

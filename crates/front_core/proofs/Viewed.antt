@@ -26,8 +26,8 @@ use Rattle.tree_cuts.specs.Calls.{Sizes}
 use Rattle.history_model.specs.State.{Now, stream_in, is_open_on}
 use Rattle.history_model.specs.Answers.{Answer, answer, refuses, from_row, at_place, tells, does, is_root, row_changes, no_inode, move_to, make, unlink, rmdir, rename, stat, listing}
 use Rattle.carried_volumes.specs.Plain.{IsPlain, IsBareBody}
-use Rattle.front_parts.specs.Built.{is_built}
-use Rattle.front_parts.specs.Viewing.{FilesFit, IsReady, is_viewed}
+use Rattle.update_records.specs.Built.{is_built}
+use Rattle.command_answers.specs.Viewing.{FilesFit, IsReady, is_viewed}
 use Rattle.front_laws.specs.Kept.{now_of}
 use Rattle.front_laws.specs.Laws.{IsKeptNow}
 use Rattle.front_core.specs.Left.{IsStateOf}

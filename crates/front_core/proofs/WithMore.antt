@@ -11,7 +11,7 @@ use Rattle.tree_model.specs.Rows.{Rows, IsTree}
 use Rattle.tree_cuts.specs.Calls.{Charged}
 use Rattle.image_model.specs.Carrying.{inode_in}
 use Rattle.carried_volumes.specs.Carried.{HaveInodes}
-use Rattle.front_parts.specs.Operations.{ops_of}
+use Rattle.update_records.specs.Operations.{ops_of}
 use Rattle.front_laws.specs.Inodes.{has, given_by, given, IsLowestFree}
 use Rattle.front_laws.specs.Owned.{Among, IsRow, AreOwned}
 use Rattle.front_laws.specs.Batches.{its_records, records_of_all}

@@ -9,8 +9,8 @@ use Rattle.stream_txn.specs.Accounts.{account_at}
 use Rattle.stream_txn.specs.Kept.{HasOpRoom}
 use Rattle.cross_dep.specs.Books.{HasRoom}
 use Rattle.carried_volumes.specs.Carried.{HaveInodes}
-use Rattle.front_parts.specs.Built.{is_built}
-use Rattle.front_parts.specs.Operations.{ops_of}
+use Rattle.update_records.specs.Built.{is_built}
+use Rattle.update_records.specs.Operations.{ops_of}
 use Rattle.front_laws.specs.Batches.{its_records}
 use Rattle.front_laws.specs.Inodes.{dropped}
 use Rattle.front_laws.specs.Logging.{MayLogAll}

@@ -15,8 +15,8 @@ use Rattle.tree_cuts.specs.Calls.{Sizes, Charged, charge}
 use Rattle.history_model.specs.State.{Now, stream_in}
 use Rattle.history_model.specs.Histories.{steps_by}
 use Rattle.cross_dep.specs.Books.{has_bit}
-use Rattle.front_parts.specs.Built.{is_built}
-use Rattle.front_parts.specs.Viewing.{IsReady}
+use Rattle.update_records.specs.Built.{is_built}
+use Rattle.command_answers.specs.Viewing.{IsReady}
 use Rattle.front_laws.specs.Kept.{IsKept, now_of}
 use Rattle.front_laws.specs.Inodes.{with_inode}
 use Rattle.front_laws.specs.Batches.{sealed_in}

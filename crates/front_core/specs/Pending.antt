@@ -9,7 +9,7 @@ use Rattle.stream_txn.specs.Kept.{AreTxnsOf, IsOpRoomKept, has_place}
 use Rattle.cross_dep.specs.Books.{Call, IsBookOf, IsRoomKept}
 use Rattle.tree_model.specs.Rows.{Rows}
 use Rattle.tree_cuts.specs.Calls.{Charged}
-use Rattle.front_parts.specs.Operations.{ops_of}
+use Rattle.update_records.specs.Operations.{ops_of}
 use Rattle.front_laws.specs.Batches.{sealed_in}
 use Rattle.front_laws.specs.Owned.{AreOwned}
 use Rattle.front_laws.specs.Logging.{metadata_size, AreLogsOf}

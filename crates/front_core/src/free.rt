@@ -9,7 +9,7 @@ ghost use Rattle.free_maps.specs.Maps.{is_set};
 ghost use Rattle.carried_volumes.specs.Plain.{IsDense};
 ghost use Rattle.carried_volumes.specs.Carried.{HaveInodes};
 ghost use Rattle.cross_dep.specs.Books.{has_bit};
-ghost use Rattle.front_parts.specs.Built.{is_built, AreSerialsBelow};
+ghost use Rattle.update_records.specs.Built.{is_built, AreSerialsBelow};
 ghost use Rattle.front_laws.specs.Inodes.{IsFree, IsLowestFree, dropped, given_by, has};
 ghost use Rattle.front_laws.specs.Owned.{AreOwned};
 ghost use Rattle.front_core.specs.Free.{AreTaken, AreBelow, MakesTheLast, IsLowestOf, IsThisOrIn, given_at, list_at, lists_in, places_in, but_of};

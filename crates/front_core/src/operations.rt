@@ -1,7 +1,7 @@
 //! The operations on files that updates make.
 ghost use Rattle.std.specs.Prelude.{◌≡◌, ℕ, List, IfOk, slice_index};
 ghost use Rattle.image_model.specs.Carrying.{inode_in};
-ghost use Rattle.front_parts.specs.Operations.{ops_of, ops_of_made, ops_of_left, ops_of_replaced};
+ghost use Rattle.update_records.specs.Operations.{ops_of, ops_of_made, ops_of_left, ops_of_replaced};
 
 use ccfs_base::NoMemory;
 use file_bodies::{BodyOp, BodyOps};

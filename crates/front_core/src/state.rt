@@ -14,8 +14,8 @@ ghost use Rattle.history_model.specs.State.{Choice, stream_in};
 ghost use Rattle.history_model.specs.Histories.{entry_of, makes, choices_by};
 ghost use Rattle.stream_txn.specs.Accounts.{account_at};
 ghost use Rattle.cross_dep.specs.Books.{has_bit};
-ghost use Rattle.front_parts.specs.Built.{is_built, AreSerialsBelow};
-ghost use Rattle.front_parts.specs.Operations.{ops_of};
+ghost use Rattle.update_records.specs.Built.{is_built, AreSerialsBelow};
+ghost use Rattle.update_records.specs.Operations.{ops_of};
 ghost use Rattle.front_laws.specs.Batches.{its_records};
 ghost use Rattle.front_laws.specs.Inodes.{dropped, given_by, has, left_out, with_inode, IsLowestFree};
 ghost use Rattle.front_laws.specs.Kept.{is_answered, now_of};
@@ -32,9 +32,9 @@ use super::pending::{Entering, Pending};
 use super::planning::Plan;
 use block_layout::Geometry;
 use ccfs_base::{Command, NoMemory};
-use front_parts::records_of;
 use std::alloc::{AllocError, Global};
 use tree_model::{Tree, Update};
+use update_records::records_of;
 
 /// What the calls so far left.
 #[derive(Drop)]

@@ -27,7 +27,7 @@ use Rattle.history_laws.proofs.Sound.{IsSound}
 use Rattle.history_laws.proofs.Runs.{sound_next, calls_run}
 use Rattle.history_laws.proofs.Turns.{Dead, leaves}
 use Rattle.image_model.specs.Carrying.{inode_in}
-use Rattle.front_parts.specs.Batches.{HasItsInode}
+use Rattle.update_records.specs.Batches.{HasItsInode}
 use Rattle.front_laws.specs.Inodes.{left_out, given_by, given, has, HasLowest, HasLowestIf, AllHaveLowest}
 use Rattle.front_laws.specs.Kept.{IsTame}
 use Rattle.front_laws.specs.Owned.{Among}

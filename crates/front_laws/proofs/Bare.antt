@@ -18,8 +18,8 @@ use Rattle.tree_model.proofs.Edited.{act, row_after, get_edited}
 use Rattle.tree_model.proofs.TreeKept.{tree_kept}
 use Rattle.tree_cuts.specs.Calls.{Charged}
 use Rattle.carried_volumes.specs.Plain.{IsBareBody, IsPlain}
-use Rattle.front_parts.specs.Built.{is_built}
-use Rattle.front_parts.specs.Batches.{IsNamed}
+use Rattle.update_records.specs.Built.{is_built}
+use Rattle.update_records.specs.Batches.{IsNamed}
 use Rattle.front_laws.proofs.Swapping.{AppliesIn, apply_in}
 
 -- a row under a serial is as in such a tree

@@ -17,8 +17,8 @@ use Rattle.tree_cuts.specs.Calls.{Charged}
 use Rattle.history_model.specs.Histories.{start, charged_in}
 use Rattle.image_model.specs.Carrying.{inode_in}
 use Rattle.image_model.specs.Changes.{slot_of}
-use Rattle.front_parts.specs.Built.{is_built}
-use Rattle.front_parts.specs.Batches.{IsNamed}
+use Rattle.update_records.specs.Built.{is_built}
+use Rattle.update_records.specs.Batches.{IsNamed}
 use Rattle.front_laws.specs.Batches.{its_records, records_of_all}
 use Rattle.front_laws.specs.Kept.{IsTame}
 use Rattle.front_laws.specs.Laws.{BatchesHaveTheirSize, record_size, update_size}

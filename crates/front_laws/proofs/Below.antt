@@ -16,7 +16,7 @@ use Rattle.history_model.specs.State.{Now, Opened, stream_in}
 use Rattle.history_model.specs.Histories.{start, makes, made_by, entered_by, now_after, charged_in, IsLegal}
 use Rattle.history_laws.proofs.Sound.{IsSound, Told, handles_left}
 use Rattle.history_laws.proofs.Runs.{sound_start, sound_next, told_next}
-use Rattle.front_parts.specs.Built.{IsAtMostBelow, AreSerialsBelow}
+use Rattle.update_records.specs.Built.{IsAtMostBelow, AreSerialsBelow}
 use Rattle.front_laws.specs.Kept.{IsKept}
 use Rattle.front_laws.proofs.Entering.{IfUpdate, Holds, all_entered}
 

@@ -23,9 +23,9 @@ use Rattle.image_model.specs.ChangeLaws.{IsSized, AreBesideSame}
 use Rattle.image_model.proofs.ChangingFields.{HasRoom, has_room}
 use Rattle.image_model.proofs.CarriedTables.{row_there}
 use Rattle.carried_volumes.specs.Carried.{Carried, no_bytes}
-use Rattle.front_parts.specs.Batches.{tree_after, changes_of_all, AllFit, AllNamed, AllHaveInodes}
-use Rattle.front_parts.specs.BatchLaws.{Stands}
-use Rattle.front_parts.proofs.Batching.{batches_are_carried}
+use Rattle.update_records.specs.Batches.{tree_after, changes_of_all, AllFit, AllNamed, AllHaveInodes}
+use Rattle.update_records.specs.BatchLaws.{Stands}
+use Rattle.update_records.proofs.Batching.{batches_are_carried}
 use Rattle.front_laws.specs.Batches.{records_of_all}
 use Rattle.front_laws.specs.Logging.{metadata_size}
 use Rattle.front_laws.specs.Laws.{BatchesCarryOn}

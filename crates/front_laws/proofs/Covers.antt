@@ -13,7 +13,7 @@ use Rattle.tree_model.specs.declared.rows.Update.TheVariants.{Make, Write, Resiz
 use Rattle.tree_cuts.specs.Calls.{Sizes, Charged}
 use Rattle.history_model.specs.State.{Now}
 use Rattle.history_model.specs.Histories.{start, steps_by, entered_by, charged_in, tree_at, IsLegal}
-use Rattle.front_parts.specs.Built.{is_built}
+use Rattle.update_records.specs.Built.{is_built}
 use Rattle.front_laws.specs.Inodes.{AllHaveLowest}
 use Rattle.front_laws.specs.Kept.{IsTame, is_answered}
 use Rattle.front_laws.specs.Batches.{ops_of_all, weight_of_all, batch_at}

@@ -14,8 +14,8 @@ use Rattle.image_model.specs.declared.pointer.Pointer.TheVariants.{Page}
 use Rattle.image_model.specs.Volumes.{Volume, table_of, block_bytes}
 use Rattle.image_model.specs.Files.{is_file_at, length_at, named, file_bytes}
 use Rattle.carried_volumes.specs.Carried.{Carried}
-use Rattle.front_parts.specs.Built.{is_built}
-use Rattle.front_parts.specs.Operations.{ops_of}
+use Rattle.update_records.specs.Built.{is_built}
+use Rattle.update_records.specs.Operations.{ops_of}
 use Rattle.front_laws.specs.Batches.{ops_of_all}
 use Rattle.front_laws.specs.Covers.{op_size, ops_size, files_of}
 use Rattle.front_laws.proofs.Entering.{Holds}

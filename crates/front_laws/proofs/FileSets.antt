@@ -13,7 +13,7 @@ use Rattle.tree_model.specs.Updates.{apply}
 use Rattle.tree_cuts.specs.Calls.{Charged}
 use Rattle.history_laws.proofs.Turns.{Turn, Same, Born, Dead, turn_of, turned, kinds, file_stays}
 use Rattle.image_model.specs.Carrying.{inode_in}
-use Rattle.front_parts.specs.Operations.{ops_of, ops_of_made}
+use Rattle.update_records.specs.Operations.{ops_of, ops_of_made}
 use Rattle.front_laws.specs.Batches.{ops_of_all}
 use Rattle.front_laws.proofs.Rows.{Drops, Makes, IsThere, file_there, node_there, drops_changes, not_both, back, one_made, dead_dead, born_born, same_dead, same_born, born_dead}
 use Rattle.front_laws.proofs.Swapping.{AppliesIn, apply_in}

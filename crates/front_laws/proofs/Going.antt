@@ -26,8 +26,8 @@ use Rattle.history_laws.proofs.Runs.{sound_next, told_next}
 use Rattle.history_laws.proofs.Room.{LetIn, room}
 use Rattle.carried_volumes.specs.Plain.{IsPlain}
 use Rattle.carried_volumes.specs.Carried.{HaveInodes}
-use Rattle.front_parts.specs.Built.{is_built}
-use Rattle.front_parts.specs.Batches.{HasItsInode}
+use Rattle.update_records.specs.Built.{is_built}
+use Rattle.update_records.specs.Batches.{HasItsInode}
 use Rattle.front_laws.specs.Inodes.{dropped, HasLowest, HasLowestIf}
 use Rattle.front_laws.specs.Kept.{IsTame, is_answered}
 use Rattle.front_laws.specs.Owned.{AreOwned}

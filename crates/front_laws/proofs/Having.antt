@@ -16,8 +16,8 @@ use Rattle.history_laws.proofs.Turns.{Born}
 use Rattle.image_model.specs.Carrying.{inode_in}
 use Rattle.carried_volumes.specs.Plain.{IsBareBody, IsPlain}
 use Rattle.carried_volumes.specs.Carried.{HaveInodes}
-use Rattle.front_parts.specs.Built.{is_built}
-use Rattle.front_parts.specs.Batches.{IsNoRows, HasItsInode, IsNamed}
+use Rattle.update_records.specs.Built.{is_built}
+use Rattle.update_records.specs.Batches.{IsNoRows, HasItsInode, IsNamed}
 use Rattle.front_laws.proofs.Turning.{IsMade, row_came}
 
 -- ---- inodes

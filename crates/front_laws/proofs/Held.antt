@@ -14,7 +14,7 @@ use Rattle.tree_model.proofs.Locks.{no_node, no_node_back}
 use Rattle.tree_cuts.specs.Calls.{Charged}
 use Rattle.tree_cuts.proofs.Plain.{ChargedMeet}
 use Rattle.image_model.specs.Carrying.{inode_in}
-use Rattle.front_parts.specs.Batches.{HasItsInode}
+use Rattle.update_records.specs.Batches.{HasItsInode}
 use Rattle.front_laws.specs.Owned.{Among}
 use Rattle.front_laws.proofs.Rows.{Drops, Makes, Changes, HasNode, IsThere, row_of, forth, back, made_there, not_both, one_made, node_there, drops_changes, only_make}
 use Rattle.front_laws.proofs.Swapping.{MeetIn, AppliesIn}

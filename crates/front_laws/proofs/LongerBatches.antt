@@ -19,7 +19,7 @@ use Rattle.tree_cuts.specs.Calls.{Sizes, Charged, plain}
 use Rattle.tree_cuts.proofs.Plain.{plain_append}
 use Rattle.history_model.specs.Histories.{start, now_after, charged_in}
 use Rattle.history_model.proofs.Longer.{charged_append}
-use Rattle.front_parts.specs.Built.{is_built, AreSerialsBelow}
+use Rattle.update_records.specs.Built.{is_built, AreSerialsBelow}
 use Rattle.front_laws.specs.Batches.{records_of_all, ops_of_all, weight_of_all, sealed_of, stream_at}
 use Rattle.front_laws.specs.Kept.{IsKept, IsTame}
 use Rattle.front_laws.specs.Laws.{LongerKeepsBatches}

@@ -6,8 +6,8 @@ use Rattle.tree_model.specs.declared.rows.Update.{Update}
 use Rattle.tree_model.specs.declared.rows.Update.TheVariants.{Make, Write, Resize, Remove, Move, Release}
 use Rattle.image_model.specs.Carrying.{inode_in}
 use Rattle.image_model.specs.Changes.{New, Drop, Touch, Enter, all_records, kind_made}
-use Rattle.front_parts.specs.Built.{is_built, IsAtMostBelow, AreSerialsBelow}
-use Rattle.front_parts.specs.Operations.{ops_of, ops_of_made, ops_of_left}
+use Rattle.update_records.specs.Built.{is_built, IsAtMostBelow, AreSerialsBelow}
+use Rattle.update_records.specs.Operations.{ops_of, ops_of_made, ops_of_left}
 use Rattle.front_laws.specs.Inodes.{given_by}
 use Rattle.front_laws.specs.Batches.{its_records}
 use Rattle.front_laws.specs.Laws.{MoreInodesLeaveUpdates}

@@ -20,7 +20,7 @@ use Rattle.tree_cuts.proofs.Plain.{ChargedMeet}
 use Rattle.history_laws.proofs.Turns.{Born}
 use Rattle.image_model.specs.Carrying.{inode_in}
 use Rattle.carried_volumes.specs.Carried.{HaveInodes}
-use Rattle.front_parts.specs.Built.{is_built}
+use Rattle.update_records.specs.Built.{is_built}
 use Rattle.front_laws.specs.Inodes.{IsFree, left_out_for, has, dropped, given_by, given}
 use Rattle.front_laws.specs.Owned.{Among, IsRow, has_node, places, IsDroppedBy, IsEnteredBy, AreOwned}
 use Rattle.front_laws.proofs.Among.{at_among, all_among, among_left, among_was, given_all, given_none, node_in, in_entry, entry_in}

@@ -17,8 +17,8 @@ use Rattle.tree_cuts.proofs.Plain.{ChargedMeet}
 use Rattle.image_model.specs.Carrying.{inode_in}
 use Rattle.image_model.specs.Changes.{Change, New, Drop, Touch, Enter, Fill, changes_of}
 use Rattle.carried_volumes.specs.Carried.{HaveInodes}
-use Rattle.front_parts.specs.Built.{is_built}
-use Rattle.front_parts.specs.Batches.{IsNamed}
+use Rattle.update_records.specs.Built.{is_built}
+use Rattle.update_records.specs.Batches.{IsNamed}
 use Rattle.front_laws.specs.Inodes.{IsFree, has, dropped, given_by, given}
 use Rattle.front_laws.specs.Owned.{Among, IsRow, places, IsDroppedBy, AreOwned}
 use Rattle.front_laws.proofs.Apart.{DontClash, LeavesCount, IsGood}

@@ -19,7 +19,7 @@ use Rattle.history_laws.proofs.Sound.{IsSound, handles_left}
 use Rattle.history_laws.proofs.Kept.{told_fits}
 use Rattle.history_laws.proofs.Runs.{sound_next, told_next}
 use Rattle.image_model.specs.Carrying.{inode_in}
-use Rattle.front_parts.specs.Built.{is_built}
+use Rattle.update_records.specs.Built.{is_built}
 use Rattle.front_laws.specs.Inodes.{dropped, given_by, given}
 use Rattle.front_laws.proofs.Entering.{IfUpdate, entry_enters}
 

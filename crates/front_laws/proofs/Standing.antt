@@ -23,9 +23,9 @@ use Rattle.image_model.specs.Carrying.{inode_in}
 use Rattle.image_model.specs.Changes.{Change, New, Drop, Touch, Enter, Fill, slot_of, records_of, all_records, changes_of, files_after, files_changed}
 use Rattle.image_model.proofs.Apart.{record_line, slot_line}
 use Rattle.carried_volumes.specs.Carried.{no_bytes}
-use Rattle.front_parts.specs.Built.{is_built}
-use Rattle.front_parts.specs.Batches.{changes_of_all}
-use Rattle.front_parts.proofs.Lists.{all_records_append}
+use Rattle.update_records.specs.Built.{is_built}
+use Rattle.update_records.specs.Batches.{changes_of_all}
+use Rattle.update_records.proofs.Lists.{all_records_append}
 use Rattle.front_laws.specs.Batches.{its_records, records_of_all}
 use Rattle.front_laws.proofs.Rows.{IsThere, dir_there, file_there, placed_there, back, only_make}
 use Rattle.front_laws.proofs.Swapping.{AppliesIn, apply_in}

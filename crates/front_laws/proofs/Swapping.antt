@@ -10,8 +10,8 @@ use Rattle.tree_model.specs.Laws.{Applies, Meet}
 use Rattle.tree_model.proofs.Swapping.{swaps}
 use Rattle.tree_cuts.specs.Calls.{Charged}
 use Rattle.image_model.specs.Carrying.{inode_in}
-use Rattle.front_parts.specs.Built.{is_built}
-use Rattle.front_parts.specs.Batches.{IsNoRows, HasItsInode, IsNamed}
+use Rattle.update_records.specs.Built.{is_built}
+use Rattle.update_records.specs.Batches.{IsNoRows, HasItsInode, IsNamed}
 use Rattle.front_laws.proofs.Rows.{Makes, Changes, row_of, there_of, forth, back, drops_changes, makes_changes}
 
 -- both change a row, and these have one inode: removing `/a` with the inode 5 and making `/b` with it meet so

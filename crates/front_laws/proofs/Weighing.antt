@@ -16,7 +16,7 @@ use Rattle.history_model.specs.Histories.{makes}
 use Rattle.history_laws.proofs.Light.{calm_blocks}
 use Rattle.carried_volumes.specs.Plain.{IsBareBody, IsPlain}
 use Rattle.carried_volumes.specs.Carried.{HaveInodes}
-use Rattle.front_parts.specs.Built.{is_built, AreSerialsBelow}
+use Rattle.update_records.specs.Built.{is_built, AreSerialsBelow}
 use Rattle.front_laws.specs.Inodes.{dropped}
 use Rattle.front_laws.specs.Owned.{IsRow}
 use Rattle.front_laws.proofs.Turning.{kind_row, entry_row}

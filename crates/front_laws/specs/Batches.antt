@@ -14,7 +14,7 @@ use Rattle.tree_model.specs.Rows.{Rows}
 use Rattle.tree_cuts.specs.Calls.{Sizes, Charged}
 use Rattle.history_model.specs.Histories.{start, charged_in, steps_in}
 use Rattle.image_model.specs.Changes.{all_records, changes_of}
-use Rattle.front_parts.specs.Operations.{ops_of}
+use Rattle.update_records.specs.Operations.{ops_of}
 
 -- the records of a built update, which are the same whatever the tree is
 abbrev pub its_records : ℕ → List ℕ → Update → List Rec

@@ -11,7 +11,7 @@ use Rattle.tree_cuts.specs.Calls.{Sizes, Charged}
 use Rattle.history_model.specs.State.{Now}
 use Rattle.history_model.specs.Histories.{entered_by}
 use Rattle.image_model.specs.Carrying.{inode_in}
-use Rattle.front_parts.specs.Batches.{IsNoRows}
+use Rattle.update_records.specs.Batches.{IsNoRows}
 
 -- the row that loses its entry is dropped, but where it stays as an open file
 abbrev pub left_out : ℕ → Bool → List ℕ

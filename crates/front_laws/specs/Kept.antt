@@ -11,8 +11,8 @@ use Rattle.history_model.specs.State.{Now}
 use Rattle.history_model.specs.Histories.{start, now_after, IsLegal}
 use Rattle.carried_volumes.specs.Plain.{IsPlain}
 use Rattle.carried_volumes.specs.Carried.{HaveInodes}
-use Rattle.front_parts.specs.Built.{is_built}
-use Rattle.front_parts.specs.Batches.{IsNamed}
+use Rattle.update_records.specs.Built.{is_built}
+use Rattle.update_records.specs.Batches.{IsNamed}
 use Rattle.front_laws.specs.Inodes.{AllHaveLowest}
 
 -- an update whose records are built, and which gives names; or none

@@ -22,8 +22,8 @@ use Rattle.image_model.specs.Changes.{with_records}
 use Rattle.shared_meta.specs.Area.{Area}
 use Rattle.carried_volumes.specs.Plain.{IsPlain, IsDense}
 use Rattle.carried_volumes.specs.Carried.{Carried, HaveInodes}
-use Rattle.front_parts.specs.Built.{is_built, AreSerialsBelow}
-use Rattle.front_parts.specs.Operations.{ops_of}
+use Rattle.update_records.specs.Built.{is_built, AreSerialsBelow}
+use Rattle.update_records.specs.Operations.{ops_of}
 use Rattle.front_laws.specs.Inodes.{given, given_by, IsFree, HasLowestIf, with_inode}
 use Rattle.front_laws.specs.Kept.{IsTame, IsKept, is_answered, now_of}
 use Rattle.front_laws.specs.Batches.{its_records, batch_at, batches_from, sealed_in}

@@ -6,8 +6,8 @@ use Rattle.tree_model.specs.declared.rows.Update.{Update}
 use Rattle.tree_cuts.specs.Calls.{charge, charged_meets, seals_own, unsealed_rows}
 use Rattle.history_model.specs.State.{stream_in}
 use Rattle.history_model.specs.Answers.{Answer, answer}
-use Rattle.front_parts.specs.Built.{is_built}
-use Rattle.front_parts.specs.Viewing.{told, is_viewed, IsReady}
+use Rattle.update_records.specs.Built.{is_built}
+use Rattle.command_answers.specs.Viewing.{told, is_viewed, IsReady}
 use Rattle.front_laws.specs.Kept.{now_of}
 use Rattle.front_core.specs.Fronts.{sizes_of}
 use Rattle.front_core.specs.Pending.{txns_of}

@@ -7,7 +7,7 @@ use Rattle.tree_model.proofs.Fitting.{applies_fits}
 use Rattle.tree_cuts.specs.Calls.{Charged}
 use Rattle.history_model.specs.Histories.{entry_of, MayCall}
 use Rattle.stream_txn.specs.Accounts.{account_at}
-use Rattle.front_parts.specs.Built.{AreSerialsBelow}
+use Rattle.update_records.specs.Built.{AreSerialsBelow}
 use Rattle.front_laws.specs.Inodes.{IsLowestFree, with_inode, has, given_by}
 use Rattle.front_laws.specs.Owned.{AreOwned}
 use Rattle.front_laws.specs.Kept.{now_of}

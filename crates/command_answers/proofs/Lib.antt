@@ -1,0 +1,4 @@
+pub mod Seen
+pub mod Named
+pub mod Ready
+pub mod Passed

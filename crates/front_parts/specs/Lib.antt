@@ -1,6 +1,0 @@
-pub mod Built
-pub mod Operations
-pub mod Batches
-pub mod BatchLaws
-pub mod CutLaws
-pub mod Viewing

@@ -1,0 +1,5 @@
+pub mod Built
+pub mod Operations
+pub mod Batches
+pub mod BatchLaws
+pub mod CutLaws
