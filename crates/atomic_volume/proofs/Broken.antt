@@ -4,7 +4,7 @@ use Rattle.std.proofs.lemmas.Option.{none-some}
 use Rattle.block_layout.specs.declared.superblock.SuperField.{SuperField}
 use Rattle.block_layout.specs.Super.{blocks_named, inodes_named}
 use Rattle.gate_journal.specs.declared.batches.Batch.{Batch}
-use Rattle.gate_journal.specs.Places.{records_start}
+use Rattle.gate_journal.specs.Offsets.{records_start}
 use Rattle.gate_journal.specs.Batches.{batches_bytes, batch_at, put_first, numbered, batch_then, batches_at}
 use Rattle.gate_journal.specs.Journal.{open_gates, records_of, batches_read}
 use Rattle.gate_journal.specs.Reading.{Breaks}

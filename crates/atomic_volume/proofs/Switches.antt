@@ -13,7 +13,7 @@ use Rattle.gate_journal.specs.Halves.{half_of, size_of, journal_of}
 use Rattle.gate_journal.specs.Loading.{empty}
 use Rattle.gate_journal.specs.Runs.{LeavesBy}
 use Rattle.atomic_volume.specs.Opening.{Contents, opened}
-use Rattle.atomic_volume.specs.Held.{Holds}
+use Rattle.atomic_volume.specs.Held.{ReadsAs}
 use Rattle.atomic_volume.specs.Homing.{other_half, Comes, at_home, OpensLike, OpensAs, IsMoved, IsMovedFrom, Bears, master_of, made_ready}
 use Rattle.atomic_volume.proofs.Bytes.{byte_read}
 use Rattle.atomic_volume.proofs.Leaving.{leaves_weaker, leaves_then}
@@ -57,7 +57,7 @@ module _ {X : Type 0} (d : Ghosts X) (h : Half) (start mid : X) (was : d.may_lea
   })
 
 -- then it is the volume's, with the half that has no batch
-pub holds_moved : (g : Geometry) (h after : Half) (bytes d c : List ℕ) → Holds g h bytes d → Bears after c → opened c ≡ option_map at_home (opened d) → journal_of after ≡ empty → length c ≡ length d → Holds g after bytes c
+pub holds_moved : (g : Geometry) (h after : Half) (bytes d c : List ℕ) → ReadsAs g h bytes d → Bears after c → opened c ≡ option_map at_home (opened d) → journal_of after ≡ empty → length c ≡ length d → ReadsAs g after bytes c
 holds_moved g h after bytes d c holds bears opens is long = record {
   opens = opens ∙ ap (option_map at_home) holds.opens ∙ (λ i. Some (record { blocks = g.blocks; inodes = g.inodes; bytes = bytes; last = ap (λ (j : Journal). j.last) (sym is) i }));
   shows = bears.shows;

@@ -4,7 +4,7 @@ use Rattle.std.specs.List.{All}
 use Rattle.gate_journal.specs.declared.batches.Range.{Range}
 use Rattle.gate_journal.specs.declared.halves.Half.{Half}
 use Rattle.disk_model.specs.Bytes.{patched}
-use Rattle.gate_journal.specs.Places.{gates_start}
+use Rattle.gate_journal.specs.Offsets.{gates_start}
 use Rattle.gate_journal.specs.Halves.{half_of, size_of, journal_of, Shows}
 use Rattle.atomic_volume.specs.Opening.{Contents, volume_place, volume_area, active_half, put_on, opened}
 

@@ -8,7 +8,7 @@ ghost use Rattle.gate_journal.specs.Loading.{empty};
 ghost use Rattle.gate_journal.specs.Runs.{LeavesBy, Quiet};
 ghost use Rattle.atomic_volume.specs.Opening.{opened};
 ghost use Rattle.atomic_volume.specs.Refusals.{IsBad};
-ghost use Rattle.atomic_volume.specs.Held.{contents_by, Holds};
+ghost use Rattle.atomic_volume.specs.Held.{contents_by, ReadsAs};
 ghost use Rattle.atomic_volume.specs.Homing.{at_home, IsMoved};
 ghost use Rattle.atomic_volume.specs.Opened.{IsFound, IsRefused};
 ghost use Rattle.atomic_volume.specs.declared.fault.VolumeFault.TheVariants.{Device};
@@ -33,7 +33,7 @@ pub struct Found<D: Disk> {
     pub ghost whole: { vec_len volume ≡ block_size * (geometry.blocks - volume_start) },
     pub ghost known_is: { D.known disk ≡ block_size * geometry.blocks },
     pub ghost settled: { D.tells → D.in_doubt disk ≡ false },
-    pub ghost sound: { D.tells → (c : List ℕ) → D.may_leave disk c → Holds geometry half volume.items c },
+    pub ghost sound: { D.tells → (c : List ℕ) → D.may_leave disk c → ReadsAs geometry half volume.items c },
 }
 
 impl<D: Disk> Found<D> {
@@ -130,7 +130,7 @@ impl<D: Disk> Found<D> {
 /// Makes what stands on a disk stable, and reads it.
 fn sync_and_read<D: Disk>(alloc: Global, disk: &mut D) -> Result<Image, VolumeFault>
     ensures found { D.tells → IfOk result (λ image. IsFound D.Disk disk.old disk.new (contents_by image.geometry image.half image.volume.items)) }
-    ensures holds { D.tells → IfOk result (λ image. (c : List ℕ) → D.may_leave disk.new c → Holds image.geometry image.half image.volume.items c) }
+    ensures holds { D.tells → IfOk result (λ image. (c : List ℕ) → D.may_leave disk.new c → ReadsAs image.geometry image.half image.volume.items c) }
     ensures sized { IfOk result (λ image. D.known disk.new ≡ block_size * image.geometry.blocks) }
     ensures size { IfOk result (λ image. size_of image.half ≡ vec_len image.volume) }
     ensures whole { IfOk result (λ image. vec_len image.volume ≡ block_size * (image.geometry.blocks - volume_start)) }

@@ -12,7 +12,7 @@ ghost use Rattle.atomic_volume.specs.Homing.{other_half, put_home, Scattered, Co
 ghost use Rattle.atomic_volume.specs.declared.fault.VolumeFault.TheVariants.{Device};
 
 use super::fault::VolumeFault;
-use super::reading::{HALF_1, MASTER_PLACE, VOLUME_PLACE};
+use super::reading::{HALF_1, MASTER_OFFSET, VOLUME_OFFSET};
 use disk_model::{Disk, DiskFailed};
 use gate_journal::gating::write_stable;
 use gate_journal::{Half, Range};
@@ -38,7 +38,7 @@ fn write_home<D: Disk>(disk: &mut D, ranges: &[Range]) -> Result<(), DiskFailed>
     ensures doubt { D.tells → D.in_doubt disk.old ≡ false → OnOk result (D.in_doubt disk.new ≡ false) }
 {
     for range in ranges {
-        disk.write_at(VOLUME_PLACE + range.off, range.bytes.all())?;
+        disk.write_at(VOLUME_OFFSET + range.off, range.bytes.all())?;
     }
     Ok(())
 }
@@ -95,6 +95,6 @@ pub fn move_home<D: Disk>(disk: &mut D, half: &Half) -> Result<Half, VolumeFault
     ensures count { RisesBy (range_bytes (journal_of half.now).ranges + 4097) (D.written disk.old) (D.written disk.new) }
 {
     let other = make_ready(disk, half)?;
-    write_stable(disk, MASTER_PLACE, &[master_byte(other.which())])?;
+    write_stable(disk, MASTER_OFFSET, &[master_byte(other.which())])?;
     Ok(other)
 }

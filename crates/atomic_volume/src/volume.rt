@@ -7,7 +7,7 @@ ghost use Rattle.gate_journal.specs.Halves.{size_of, journal_of, fits, MayFollow
 ghost use Rattle.gate_journal.specs.Loading.{empty};
 ghost use Rattle.gate_journal.specs.Runs.{LeavesBy};
 ghost use Rattle.atomic_volume.specs.Opening.{opened};
-ghost use Rattle.atomic_volume.specs.Held.{contents_by, Holds};
+ghost use Rattle.atomic_volume.specs.Held.{contents_by, ReadsAs};
 ghost use Rattle.atomic_volume.specs.Commits.{committed, AllOrNothing};
 ghost use Rattle.atomic_volume.specs.Homing.{at_home, IsMoved};
 ghost use Rattle.atomic_volume.specs.declared.fault.VolumeFault.TheVariants.{Device, NoMemory};
@@ -33,7 +33,7 @@ pub struct Volume<D: Disk> {
     pub ghost whole: { vec_len volume ≡ block_size * (geometry.blocks - volume_start) },
     pub ghost known_is: { D.known disk ≡ block_size * geometry.blocks },
     pub ghost settled: { D.tells → failed ≡ false → D.in_doubt disk ≡ false },
-    pub ghost sound: { D.tells → failed ≡ false → (c : List ℕ) → D.may_leave disk c → Holds geometry half volume.items c },
+    pub ghost sound: { D.tells → failed ≡ false → (c : List ℕ) → D.may_leave disk c → ReadsAs geometry half volume.items c },
 }
 
 impl<D: Disk> Volume<D> {

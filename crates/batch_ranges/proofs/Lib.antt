@@ -1,4 +1,4 @@
-pub mod Fronts
+pub mod Prefixes
 pub mod Puts
 pub mod Weights
 pub mod Putting

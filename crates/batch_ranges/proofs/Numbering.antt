@@ -6,11 +6,11 @@ use Rattle.std.proofs.lemmas.Slice.{drop-append-drop}
 use Rattle.byteorder.specs.Endian.{little_bytes, little_number}
 use Rattle.byteorder.specs.Numbers.{length-bytes_low_first, little_number-reads_back}
 use Rattle.inode_table.specs.Attrs.{attr_of}
-use Rattle.inode_table.specs.Records.{record_place, record_block}
+use Rattle.inode_table.specs.Records.{record_offset, record_block}
 use Rattle.free_maps.specs.Maps.{is_set, clear_below}
 use Rattle.flat_dirs.specs.Slot.{slot_in}
 use Rattle.tree_model.specs.Rows.{Rows}
-use Rattle.image_model.specs.Fields.{slot_place, slot_block}
+use Rattle.image_model.specs.Fields.{slot_offset, slot_block}
 use Rattle.image_model.specs.Volumes.{Volume, Table, table_of, number, format, free_blocks, free_inodes, clear_inodes, is_used, attr, slot}
 use Rattle.image_model.specs.Files.{is_dir_at, is_file_at, length_at}
 use Rattle.image_model.specs.Lowest.{lowest}
@@ -18,7 +18,7 @@ use Rattle.image_model.specs.Checks.{all_built, block_of, unless, is_bad_record,
 use Rattle.image_model.specs.Trees.{row_at}
 use Rattle.image_model.specs.Carrying.{IsRenamed, CarriesRows}
 use Rattle.image_model.specs.ChangeLaws.{AreOrphansNamed}
-use Rattle.image_model.proofs.ChangingFields.{HasRoom, has_room}
+use Rattle.image_model.proofs.ChangingFields.{HasSpace, has_space}
 use Rattle.carried_volumes.specs.Carried.{no_bytes, Carried}
 use Rattle.batch_ranges.specs.Laws.{numbered}
 use Rattle.batch_ranges.proofs.Puts.{patched_is_put}
@@ -36,10 +36,10 @@ module _ (v : Volume) (head : List ℕ) (eight : length head ≡ 8) where
   same_used i = ap (λ (b : List ℕ). is_set (take 4096 b) i) (same_from 8192 (omega arith))
 
   same_attr : (i : ℕ) → attr w i ≡ attr v i
-  same_attr i = ap (λ (b : List ℕ). attr_of (take 24 b)) (same_from (record_place i) (omega arith))
+  same_attr i = ap (λ (b : List ℕ). attr_of (take 24 b)) (same_from (record_offset i) (omega arith))
 
   same_slot : (i : ℕ) → slot w i ≡ slot v i
-  same_slot i = ap (λ (b : List ℕ). slot_in (take 69 b)) (same_from (slot_place v.inodes i) (omega arith))
+  same_slot i = ap (λ (b : List ℕ). slot_in (take 69 b)) (same_from (slot_offset v.inodes i) (omega arith))
 
   same_table : table_of w ≡ table_of v
   same_table =
@@ -100,7 +100,7 @@ module _ (v : Volume) (n : ℕ) (long : 8 ≤ length v.bytes) where
 pub numbers_are_beside : (v : Volume) (t : Rows) (inodes : List ℕ) (n : ℕ) → n < 2 ^ 64 → Carried v t inodes
     → Carried (numbered n v) t inodes × (number (numbered n v) ≡ n)
 numbers_are_beside v t inodes n fits c =
-    let room : HasRoom v = has_room v c.sized in
+    let room : HasSpace v = has_space v c.sized in
     let is = numbered_is v n (omega (arith, room.long)) in (
       subst (λ (z : Volume). Carried z t inodes) (sym is) (kept v (little_bytes 8 n) (length-bytes_low_first 0 8 n) t inodes c),
       ap number is ∙ little_number-reads_back 8 n (drop 8 v.bytes) fits,

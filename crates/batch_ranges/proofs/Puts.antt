@@ -12,7 +12,7 @@ use Rattle.delta_log.proofs.Records.{recorded_length, all_recorded-append}
 use Rattle.atomic_volume.specs.Opening.{put_on}
 use Rattle.gate_journal.specs.declared.batches.Range as of_batch
 use Rattle.batch_ranges.specs.Ranges.{off_of, size_of, range_at, left_by}
-use Rattle.batch_ranges.proofs.Fronts.{part_front, recorded_front}
+use Rattle.batch_ranges.proofs.Prefixes.{part_front, recorded_front}
 
 put_sets : (new bytes : List ℕ) (from : ℕ) → put bytes from new ≡ sets bytes from new
 put_sets [] bytes from = refl

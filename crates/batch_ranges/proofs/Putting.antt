@@ -12,10 +12,10 @@ use Rattle.image_model.specs.Fields.{block_place}
 use Rattle.image_model.specs.Volumes.{Volume, metadata}
 use Rattle.image_model.specs.Changes.{with_records}
 use Rattle.image_model.specs.ChangeLaws.{IsSized}
-use Rattle.image_model.proofs.ChangingFields.{HasRoom, has_room}
+use Rattle.image_model.proofs.ChangingFields.{HasSpace, has_space}
 use Rattle.batch_ranges.specs.Laws.{with_ranges, numbered}
 use Rattle.batch_ranges.specs.Ranges.{left_by, number_range, number_record, ranges_by, metadata_after}
-use Rattle.batch_ranges.proofs.Fronts.{recorded_front, all_recorded_front}
+use Rattle.batch_ranges.proofs.Prefixes.{recorded_front, all_recorded_front}
 use Rattle.batch_ranges.proofs.Puts.{patched_is_put, all_left}
 
 -- how many bytes the blocks before the data blocks have
@@ -42,7 +42,7 @@ pub ranges_put_records : (v : Volume) (log : List Rec) (n : ℕ) → IsSized v �
     → (with_ranges v (ranges_by (metadata v) log n) ≡ numbered n (with_records v log)) × (metadata (numbered n (with_records v log)) ≡ metadata_after (metadata v) log n)
 ranges_put_records v log n sized inside =
     let m : ℕ = block_place (data_start v.inodes) in
-    let room : HasRoom v = has_room v sized in
+    let room : HasSpace v = has_space v sized in
     let place : m ≡ 12288 + 384 * v.inodes = start_is v.inodes room.steps in
     let within : m ≤ length v.bytes = omega (arith, place, room.long) in
     let long : length (metadata v) ≡ m = length-take m v.bytes ∙ omega (arith, within) in

@@ -4,7 +4,7 @@ use Rattle.std.proofs.lemmas.Grind.{common_steps}
 use Rattle.std.proofs.lemmas.List.{length-take}
 use Rattle.std.proofs.lemmas.List.FromFn.{take-map-range_with_len}
 use Rattle.ccfs_base.specs.Limits.{pages}
-use Rattle.block_maps.specs.Laws.{UsesAreCounted, UsesAreFronts, NextIsWhole}
+use Rattle.block_maps.specs.Laws.{UsesAreCounted, UsesArePrefixes, NextIsWhole}
 use Rattle.block_maps.specs.Uses.{uses, block_count, use_at}
 use Rattle.block_maps.proofs.Placing.{length-uses, uses_at}
 
@@ -14,8 +14,8 @@ uses_are_counted n = length-uses n
 pub block_count_low : (m n : ℕ) → m ≤ n → block_count m ≤ block_count n
 block_count_low m n h = grind (arith, common_steps)
 
-pub uses_are_fronts : UsesAreFronts
-uses_are_fronts m n h =
+pub uses_are_prefixes : UsesArePrefixes
+uses_are_prefixes m n h =
     ap (λ z. take z (uses n)) (length-uses m) ∙ ap (take (block_count m)) (uses_at n)
     ∙ take-map-range_with_len use_at 0 (block_count n) (block_count m) (block_count_low m n h) ∙ sym (uses_at m)
 

@@ -9,8 +9,8 @@ abbrev pub UsesAreCounted : Type 0
 UsesAreCounted = (n : ℕ) → length (uses n) ≡ block_count n
 
 -- the uses of a shorter file are the first ones of a longer one
-abbrev pub UsesAreFronts : Type 0
-UsesAreFronts = (m n : ℕ) → m ≤ n → take (length (uses m)) (uses n) ≡ uses m
+abbrev pub UsesArePrefixes : Type 0
+UsesArePrefixes = (m n : ℕ) → m ≤ n → take (length (uses m)) (uses n) ≡ uses m
 
 -- a file that has just the blocks that its length takes still has just those behind a batch that gave it as many as it needs
 abbrev pub NextIsWhole : Type 0

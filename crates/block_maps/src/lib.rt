@@ -14,7 +14,7 @@ mod next;
 mod plans;
 mod uses;
 
-pub use laws::{next_is_whole, uses_are_fronts};
+pub use laws::{next_is_whole, uses_are_prefixes};
 pub use maps::Maps;
 pub use next::Next;
 pub use plans::{Gain, Plan};

@@ -15,7 +15,7 @@ use Rattle.ccfs_base.specs.Names.{is_name}
 use Rattle.tree_model.specs.declared.rows.Body.{Body}
 use Rattle.tree_model.specs.declared.rows.Row.{Row}
 use Rattle.tree_model.specs.Rows.{Rows}
-use Rattle.image_model.specs.Fields.{slot_place}
+use Rattle.image_model.specs.Fields.{slot_offset}
 use Rattle.image_model.specs.Reading.{IsWhole}
 use Rattle.image_model.specs.Volumes.{Volume, Table, volume_of, table_of, data_blocks, is_block_used, is_used, attr, slot}
 use Rattle.image_model.specs.Files.{is_dir_attr, is_dir_kind, is_file_attr, is_file_at, file_bytes, pointers}
@@ -152,7 +152,7 @@ module _ (v : Volume) (sized : IsSized v) (passes : first_failure_for_now None v
         is = s.1;
         apart = not_orphan table sound.bare i s.0
             (ap (λ b. cond b (slot v i) None) (and_from (is_entry table i) (nat_lt i v.inodes) entry (lt-ltb i v.inodes within)) ∙ s.1);
-        named = slot_named (take 69 (drop (slot_place v.inodes i) v.bytes)) s.0 s.1;
+        named = slot_named (take 69 (drop (slot_offset v.inodes i) v.bytes)) s.0 s.1;
       }
 
   orphans : AreOrphansNamed table

@@ -1,5 +1,5 @@
 pub mod Names
-pub mod Kept
+pub mod Padded
 pub mod Paths
 pub mod Parsed
 pub mod Memory

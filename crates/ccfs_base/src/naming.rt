@@ -25,11 +25,11 @@ impl Model for Name {
 
     ghost Value = { List ℕ };
 
-    ghost use Rattle.ccfs_base.specs.Kept.{shown, IsKept, kept, kept_ok};
+    ghost use Rattle.ccfs_base.specs.Padded.{shown, IsPadded, kept, kept_ok};
 
     ghost view = { shown };
 
-    ghost invariant = { IsKept };
+    ghost invariant = { IsPadded };
 
     ghost inverse = { kept };
 

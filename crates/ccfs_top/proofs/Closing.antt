@@ -13,7 +13,7 @@ use Rattle.image_check.specs.Kinds.{kind_name}
 use Rattle.ccfs_top.specs.declared.stop.Stop.{Stop}
 use Rattle.ccfs_top.specs.declared.stop.Stop.TheVariants.{Usage, Long, BadLine, NotBuilt, Source, Sink, Disk, BadImage, NoMemory}
 use Rattle.ccfs_top.specs.Ends.{IsSaid, IsFault, HasLine, Ends, EndsWith, IsMadeStatus, IsRefusal, IsRunStatus, Wrote, joined}
-use Rattle.ccfs_top.specs.Images.{Image, Finding, Holds, Spoilt, Unread}
+use Rattle.ccfs_top.specs.Images.{Image, Finding, Good, Spoilt, Unread}
 use Rattle.ccfs_top.specs.Runs.{Expected, IsReady, alone, ran, over, over_calls, over_script, expected, printed, fresh}
 use Rattle.ccfs_top.specs.Stops.{status_of, stop_line, Told, SaidOf, Decides, Until, Grew, IsFaultStop, IsLate}
 
@@ -69,7 +69,7 @@ none_for : (status : ℕ) (line : List ℕ) → IsPlain (alone status line)
 none_for status line = inr (refl, refl)
 
 plain_over : {A : Type 0} (good : A → Expected) (seen : Finding A) → ((a : A) → (good a).status ≡ 0) → IsPlain (over good seen)
-plain_over good (Holds a) each = inl (each a)
+plain_over good (Good a) each = inl (each a)
 plain_over good (Spoilt kind block) each = none_for 8 (bad_image_line (kind_name kind) block)
 plain_over good Unread each = none_for 9 memory_fault_line
 

@@ -9,7 +9,7 @@ use Rattle.gate_journal.specs.Journal.{Journal}
 use Rattle.gate_journal.specs.Halves.{journal_of}
 use Rattle.gate_journal.specs.Runs.{LeavesBy}
 use Rattle.atomic_volume.specs.Opening.{put_on}
-use Rattle.atomic_volume.specs.Held.{contents_by, Holds}
+use Rattle.atomic_volume.specs.Held.{contents_by, ReadsAs}
 use Rattle.atomic_volume.specs.Commits.{committed, AllOrNothing}
 use Rattle.atomic_volume.specs.Homing.{at_home, IsMoved}
 use Rattle.image_model.specs.Checks.{is_last}
@@ -17,9 +17,9 @@ use Rattle.batch_ranges.specs.Ranges.{metadata_after}
 use Rattle.front_laws.specs.Kept.{IsKept}
 use Rattle.front_core.specs.Fronts.{Fronted, seals_of}
 use Rattle.ccfs_top.specs.Runs.{further}
-use Rattle.ccfs_top.specs.Taken.{recs_at, next_batch, journal_for}
+use Rattle.ccfs_top.specs.JournalSpace.{recs_at, next_batch, journal_for}
 use Rattle.ccfs_top.specs.Sessions.{Settled, ShowsOneOf, cut_tree}
-use Rattle.ccfs_top.proofs.Rooms.{last_for}
+use Rattle.ccfs_top.proofs.JournalSpaces.{last_for}
 use Rattle.ccfs_top.proofs.Committing.{settled_shows, settled_on, settled_at, contents_show}
 use Rattle.ccfs_top.proofs.Leaving.{leaves_join, stays_shown, moved_shown, commit_shown}
 
@@ -27,7 +27,7 @@ use Rattle.ccfs_top.proofs.Leaving.{leaves_join, stays_shown, moved_shown, commi
 pub record Stands {X : Type 0} (d : Ghosts X) (x : X) (g : Geometry) (half : Half) (bytes at_hand : List ℕ) (front : Fronted) (first k : ℕ) : Type 0 where
   pub settled : Settled g bytes at_hand front first k
   pub last : is_last (journal_of half).last (further first k) ≡ true
-  pub sound : (c : List ℕ) → d.may_leave x c → Holds g half bytes c
+  pub sound : (c : List ℕ) → d.may_leave x c → ReadsAs g half bytes c
 
 module _ {X : Type 0} (d : Ghosts X) (x : X) (g : Geometry) (half : Half) (bytes at_hand : List ℕ) (front : Fronted) (first k : ℕ) (s : Stands d x g half bytes at_hand front first k) where
   -- where nothing is done, its cut
@@ -53,7 +53,7 @@ module _ {X : Type 0} (d : Ghosts X) (x : X) (g : Geometry) (half : Half) (bytes
 -- where room is made, and then the next batch is committed, or a part of it
 pub commit_left : {X : Type 0} (d : Ghosts X) (x m y : X) (g g' : Geometry) (half half' : Half) (bytes bytes' at_hand hand : List ℕ) (front : Fronted) (first k size : ℕ) (b : Batch)
     → Stands d x g half bytes at_hand front first k → IsKept front.sizes front.opening front.inodes front.entries → k < seals_of front
-    → g' ≡ g → bytes' ≡ bytes → journal_of half' ≡ journal_for (journal_of half) size → ((c : List ℕ) → d.may_leave m c → Holds g' half' bytes' c)
+    → g' ≡ g → bytes' ≡ bytes → journal_of half' ≡ journal_for (journal_of half) size → ((c : List ℕ) → d.may_leave m c → ReadsAs g' half' bytes' c)
     → b ≡ next_batch at_hand front first k → hand ≡ metadata_after at_hand (recs_at front k) (further first (k + 1))
     → LeavesBy d x m (IsMoved (contents_by g half bytes) (d.may_leave x)) → LeavesBy d m y (AllOrNothing (contents_by g' half' bytes') b (d.may_leave m)) → LeavesBy d x y (ShowsOneOf front first k (k + 1))
 commit_left d x m y g g' half half' bytes bytes' at_hand hand front first k size b s kept more same_g same roomy sound next after moved way =

@@ -40,7 +40,7 @@ use Rattle.front_core.specs.Fronts.{Fronted, seals_of}
 use Rattle.recovery.specs.Recovering.{volume_in, picture_shown}
 use Rattle.recovery.proofs.Carried.{carried_trees_are_shown}
 use Rattle.ccfs_top.specs.Runs.{further}
-use Rattle.ccfs_top.specs.Taken.{recs_at, next_batch}
+use Rattle.ccfs_top.specs.JournalSpace.{recs_at, next_batch}
 use Rattle.ccfs_top.specs.Sessions.{Settled, Shows, cut_tree}
 use Rattle.carried_volumes.proofs.Standing.{carried_volumes_stand}
 use Rattle.front_laws.proofs.CarryOn.{batches_carry_on}

@@ -17,9 +17,9 @@ use Rattle.ccfs_top.proofs.Ending.{fault_decides}
 use Rattle.ccfs_top.specs.declared.stop.Stop.{Stop}
 use Rattle.ccfs_top.specs.declared.stop.Stop.TheVariants.{Usage, Long, BadLine, NotBuilt, Source, Sink, Disk, BadImage, NoMemory}
 use Rattle.ccfs_top.specs.Ends.{IsPart, joined, line_behind, first_or}
-use Rattle.ccfs_top.specs.Images.{Image, IsImage, Finding, Holds, Spoilt, Unread, Finds as FindsIn}
+use Rattle.ccfs_top.specs.Images.{Image, IsImage, Finding, Good, Spoilt, Unread, Finds as FindsIn}
 use Rattle.ccfs_top.specs.Found.{IsFound}
-use Rattle.ccfs_top.specs.Left.{Kept, LeftBy, IsShut, Leaves, Halts, Done, DoneOn, HaltsOn}
+use Rattle.ccfs_top.specs.Outcomes.{CrashSafe, LeftBy, IsShut, Leaves, Halts, Done, DoneOn, HaltsOn}
 use Rattle.ccfs_top.specs.Runs.{Expected, ran, over}
 use Rattle.ccfs_top.specs.Stops.{Decides, Grew, IsFaultStop, of_open, status_of}
 
@@ -93,7 +93,7 @@ leaves_refused d old new calls found open_fault.NoMemory lines left = left
 -- what a session left is left, too, once the disk was only read
 pub kept_then : {X : Type 0} (d : Ghosts X) (old mid new : X) (image : Image) (calls : List Call) (lines : ℕ)
     → ((x : X) (t : ℕ) (c : List ℕ) → t ≤ d.moment x → d.may_leave x c → d.left_since x t c)
-    → Kept d old mid image calls lines → Quiet d mid new → Kept d old new image calls lines
+    → CrashSafe d old mid image calls lines → Quiet d mid new → CrashSafe d old new image calls lines
 kept_then d old mid new image calls lines counts_now kept quiet = record {
   ever = record {
     time = elapses_join kept.ever.time quiet.images.time;
@@ -135,11 +135,11 @@ module _ {X : Type 0} (d : Ghosts X) (old mid new : X) (calls : List Call) (imag
     };
   }
 
-  pub halts_behind : (s : Stop) → Halts (ran image calls) s (Kept d mid new image calls) T text0 text1 → HaltsOn d old new calls (over (λ (i : Image). ran i calls)) s T text0 text1
+  pub halts_behind : (s : Stop) → Halts (ran image calls) s (CrashSafe d mid new image calls) T text0 text1 → HaltsOn d old new calls (over (λ (i : Image). ran i calls)) s T text0 text1
   halts_behind s halts = record {
     found = bytes;
     from_start = from_start;
-    seen = Holds image;
+    seen = Good image;
     finds = is;
     halts = record {
       lines = halts.lines;

@@ -16,7 +16,7 @@ use Rattle.front_laws.specs.Kept.{is_answered}
 use Rattle.front_core.specs.Fronts.{Fronted, next_history, seals_of}
 use Rattle.ccfs_top.specs.Images.{Image}
 use Rattle.ccfs_top.specs.Stages.{is_sync_form, called}
-use Rattle.ccfs_top.specs.Left.{Within}
+use Rattle.ccfs_top.specs.Outcomes.{Within}
 use Rattle.ccfs_top.specs.Reached.{Reached}
 use Rattle.ccfs_top.specs.Runs.{further, history}
 use Rattle.ccfs_top.specs.Sessions.{ShowsOneOf, IsStepped, cut_tree}

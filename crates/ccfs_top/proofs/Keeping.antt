@@ -16,7 +16,7 @@ use Rattle.recovery.specs.Recovering.{shown_for_now}
 use Rattle.ccfs_top.specs.Images.{Image}
 use Rattle.ccfs_top.specs.Stages.{called}
 use Rattle.ccfs_top.specs.Runs.{further, history, replies}
-use Rattle.ccfs_top.specs.Left.{Within, Kept, first_history}
+use Rattle.ccfs_top.specs.Outcomes.{Within, CrashSafe, first_history}
 use Rattle.ccfs_top.proofs.Leaving.{leaves_join, leaves_wider}
 use Rattle.ccfs_top.proofs.Steps.{history_on}
 use Rattle.ccfs_top.proofs.Ending.{length_lines}
@@ -58,7 +58,7 @@ pub kept_on : {X : Type 0} (d : Ghosts X) (old mid new : X) (image : Image) (cal
     → h ≡ first_history image calls i → durable h ≡ written
     → LeavesBy d old mid (λ c. d.may_leave old c ⊎ Within image (first_history image calls i) 0 c)
     → LeavesBy d mid new (Within image (called image.sizes image.tree h call.actor call.command) written)
-    → Kept d old new image calls i
+    → CrashSafe d old new image calls i
 kept_on d old mid new image calls i call h written counts_now lt is here acknowledged before step =
     let on = first_history image calls (i + 1) in
     let e = entry_of image.sizes (now_after image.sizes (start image.tree) (first_history image calls i)) call.actor call.command in
@@ -83,7 +83,7 @@ pub kept_all : {X : Type 0} (d : Ghosts X) (old new : X) (image : Image) (calls 
     → h ≡ first_history image calls i → durable h ≡ written → written ≤ seal_count image.sizes (start image.tree) h
     → LeavesBy d old new (λ c. d.may_leave old c ⊎ Within image (first_history image calls i) 0 c)
     → ((c : List ℕ) → d.may_leave new c → shown_for_now c ≡ Some (further image.number written, picture (tree_at image.sizes (start image.tree) h written)))
-    → Kept d old new image calls (length (replies image calls))
+    → CrashSafe d old new image calls (length (replies image calls))
 kept_all d old new image calls i h written le here acknowledged few before shows =
     let lines = length (replies image calls) in
     let count : lines ≡ length calls = length_lines image.sizes (start image.tree) calls in

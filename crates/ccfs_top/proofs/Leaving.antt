@@ -8,7 +8,7 @@ use Rattle.gate_journal.specs.declared.batches.Batch.{Batch}
 use Rattle.gate_journal.specs.declared.halves.Half.{Half}
 use Rattle.gate_journal.specs.Runs.{LeavesBy}
 use Rattle.atomic_volume.specs.Opening.{Contents}
-use Rattle.atomic_volume.specs.Held.{contents_by, Holds}
+use Rattle.atomic_volume.specs.Held.{contents_by, ReadsAs}
 use Rattle.atomic_volume.specs.Commits.{committed, AllOrNothing}
 use Rattle.atomic_volume.specs.Homing.{at_home, IsMoved}
 use Rattle.recovery.specs.Recovering.{picture_shown}
@@ -46,7 +46,7 @@ one_of_more front first l m least most c low high shows = let p = shows.enough i
 -- ---- what is left, where each image at the start was that of a volume which shows a cut
 
 module _ {X : Type 0} (d : Ghosts X) (g : Geometry) (h : Half) (bytes : List ℕ) (front : Fronted) (first k : ℕ) (shows : Shows g h bytes (further first k) (picture (cut_tree front k)))
-    (x : X) (sound : (c : List ℕ) → d.may_leave x c → Holds g h bytes c) where
+    (x : X) (sound : (c : List ℕ) → d.may_leave x c → ReadsAs g h bytes c) where
   held_cut : (least most : ℕ) (c : List ℕ) → least ≤ k → k ≤ most → d.may_leave x c → ShowsOneOf front first least most c
   held_cut least most c low high left = record { cut = k; enough = low; few = high; shows = shows_to c (contents_by g h bytes) (further first k, picture (cut_tree front k)) (sound c left).opens shows }
 

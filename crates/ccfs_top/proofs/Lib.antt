@@ -3,7 +3,7 @@ pub mod Reading
 pub mod Fewness
 pub mod Viewing
 pub mod Imaged
-pub mod Rooms
+pub mod JournalSpaces
 pub mod Committing
 pub mod Leaving
 pub mod Commits

@@ -15,7 +15,7 @@ use Rattle.image_check.specs.declared.kinds.BadImage.{BadImage}
 use Rattle.recovery.specs.Bad.{Says}
 use Rattle.recovery.specs.Recovering.{recovered_for_now, pictured}
 use Rattle.ccfs_top.specs.Images.{Image}
-use Rattle.ccfs_top.specs.Left.{Within, Kept, LeftBy, IsShut, first_history}
+use Rattle.ccfs_top.specs.Outcomes.{Within, CrashSafe, LeftBy, IsShut, first_history}
 use Rattle.ccfs_top.proofs.Ending.{further_none}
 use Rattle.ccfs_top.proofs.Leaving.{leaves_join, leaves_wider}
 use Rattle.ccfs_top.proofs.Keeping.{within_longer}
@@ -32,7 +32,7 @@ opening_within image h c small recovers = within_longer image [] h 0 c (record {
 -- what a session leaves that opened, seen from the opening's start
 pub kept_opened : {X : Type 0} (d : Ghosts X) (old mid new : X) (image : Image) (calls : List Call) (lines : ℕ) (home : Contents) → image.number < 2 ^ 64
     → Finds d old mid home (image.number, image.tree) → ((c : List ℕ) → d.may_leave mid c → recovered_for_now c ≡ Some (image.number, image.tree))
-    → Kept d mid new image calls lines → Kept d old new image calls lines
+    → CrashSafe d mid new image calls lines → CrashSafe d old new image calls lines
 kept_opened d old mid new image calls lines home small found each kept =
     let h = first_history image calls (lines + 1) in
     let way : List ℕ → Type 0 = λ c. d.may_leave old c ⊎ Within image h 0 c in

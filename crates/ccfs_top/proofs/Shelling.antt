@@ -13,8 +13,8 @@ use Rattle.ccfs_top.specs.declared.stop.Stop.{Stop}
 use Rattle.ccfs_top.specs.declared.stop.Stop.TheVariants.{Usage, Long, BadLine, NotBuilt, Sink}
 use Rattle.ccfs_top.specs.Asked.{Asked, Mkfs, Run, Tree, IsStatusOf}
 use Rattle.ccfs_top.specs.Ends.{EndsWith, IsEarly, IsMadeStatus, IsTreeStatus, Wrote}
-use Rattle.ccfs_top.specs.Images.{Image, Finding, Holds, Spoilt, Unread}
-use Rattle.ccfs_top.specs.Left.{IsDiskEnd, Kept, Leaves, Halts, DoneOn, HaltsOn, Ran, IsNew}
+use Rattle.ccfs_top.specs.Images.{Image, Finding, Good, Spoilt, Unread}
+use Rattle.ccfs_top.specs.Outcomes.{IsDiskEnd, CrashSafe, Leaves, Halts, DoneOn, HaltsOn, Ran, IsNew}
 use Rattle.ccfs_top.specs.Runs.{Expected, IsReady, alone, ran, over, over_calls, over_script, expected, calls_in}
 use Rattle.ccfs_top.specs.Stops.{Told, SaidOf, status_of}
 use Rattle.ccfs_top.proofs.Closing.{OfScript, Refused, script_decides, script_grew, plain_expected, expected_ready, ends_with, ends_done, wrote_stop, wrote_done}
@@ -38,7 +38,7 @@ refused_script text s kind long bad unbuilt =
 -- a stop leaves what the status that is told says
 told_leaves : {X : Type 0} (d : Ghosts X) (old new : X) (calls : List Call) (found : List ℕ) (seen : Finding Image) (s : Stop) (code lines : ℕ) → Told s code
     → Leaves d old new calls found seen (status_of s) lines → Leaves d old new calls found seen code lines
-told_leaves d old new calls found (Holds image) s code lines told left = left
+told_leaves d old new calls found (Good image) s code lines told left = left
 told_leaves d old new calls found (Spoilt kind block) s code lines told left = left
 told_leaves d old new calls found Unread s code lines told (inl quiet) = inl quiet
 told_leaves d old new calls found Unread s code lines (inl is) (inr more) = inr (subst IsDiskEnd (sym is) more.0, more.1)
@@ -81,15 +81,15 @@ pub ran_whole : {X : Type 0} (d : Ghosts X) (old new : X) (script : List ℕ) (c
     → IsReady script calls → DoneOn d old new calls number T text0 text1 → Ran d old new script T g 0 number text0 text1
 ran_whole d old new script calls number T g text0 text1 ready on =
     let e = ran on.image calls in
-    let same : expected script (Holds on.image) ≡ e = expected_ready script (Holds on.image) calls ready in
+    let same : expected script (Good on.image) ≡ e = expected_ready script (Good on.image) calls ready in
     record {
       found = on.found;
       from_start = on.from_start;
-      seen = Holds on.image;
+      seen = Good on.image;
       finds = on.finds;
       lines = length e.replies;
       ends = subst (λ (z : Expected). EndsWith z (length e.replies) 0 number) (sym same) (ends_done e number refl on.done.batches);
-      leaves = subst (λ (z : List Call). Kept d old new on.image z (length e.replies)) (sym (ap calls_in ready.in_grammar)) on.done.kept;
+      leaves = subst (λ (z : List Call). CrashSafe d old new on.image z (length e.replies)) (sym (ap calls_in ready.in_grammar)) on.done.kept;
       wrote = λ told. subst (λ (z : Expected). Wrote z g (length e.replies) 0 text0 text1) (sym same) (wrote_done e g text0 text1 refl (on.done.text told));
     }
 

@@ -11,7 +11,7 @@ use Rattle.front_laws.specs.Batches.{batch_at, batches_from}
 use Rattle.front_laws.specs.Kept.{IsKept}
 use Rattle.history_model.proofs.Longer.{seals_counted}
 use Rattle.front_core.specs.Fronts.{Fronted, seals_of, waiting}
-use Rattle.ccfs_top.specs.Taken.{HasTaken}
+use Rattle.ccfs_top.specs.JournalSpace.{HasTaken}
 use Rattle.ccfs_top.specs.Sessions.{Settled, ShowsOneOf}
 use Rattle.front_laws.proofs.KeptNow.{histories_leave_kept_states}
 use Rattle.ccfs_top.proofs.Leaving.{one_of_more}

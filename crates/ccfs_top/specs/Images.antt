@@ -24,13 +24,13 @@ pub record IsImage (image : Image) (c : List ℕ) : Type 0 where
 -- What is found: something to go on with, or an image that is bad so in that block. Or nothing was read, since the disk
 -- failed or memory was wanting first.
 pub data Finding (A : Type 0) : Type 0 where
-  Holds : (a : A) → Finding A
+  Good : (a : A) → Finding A
   Spoilt : (kind : BadKind) (block : ℕ) → Finding A
   Unread : Finding A
 
 -- what was found are these bytes, where P says when something is right of them
 abbrev pub Finds : {A : Type 0} → (A → List ℕ → Type 0) → List ℕ → Finding A → Type 0
-Finds P c (Holds a) = P a c
+Finds P c (Good a) = P a c
 Finds P c (Spoilt kind block) = IsBad c kind block
 Finds P c Unread = Unit {0}
 

@@ -1,7 +1,7 @@
 pub mod Found
 pub mod Stages
 pub mod Steady
-pub mod Taken
+pub mod JournalSpace
 pub mod Images
 pub mod Asked
 pub mod Runs
@@ -9,4 +9,4 @@ pub mod Ends
 pub mod Stops
 pub mod Sessions
 pub mod Reached
-pub mod Left
+pub mod Outcomes

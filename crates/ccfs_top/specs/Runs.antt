@@ -19,7 +19,7 @@ use Rattle.block_layout.specs.Sizes.{data_start}
 use Rattle.image_check.specs.Kinds.{kind_name}
 use Rattle.tree_cuts.specs.Calls.{Sizes}
 use Rattle.front_core.specs.Fronts.{Fronted}
-use Rattle.ccfs_top.specs.Images.{Image, Finding, Holds, Spoilt, Unread}
+use Rattle.ccfs_top.specs.Images.{Image, Finding, Good, Spoilt, Unread}
 
 -- a batch number, some places further
 abbrev pub further : ℕ → ℕ → ℕ
@@ -80,7 +80,7 @@ ran image calls = record {
 -- what comes of what is found, where a good image has this end. Where nothing was read, a fault is the end: want of memory
 -- stands for any
 abbrev pub over : {A : Type 0} → (A → Expected) → Finding A → Expected
-over good (Holds a) = good a
+over good (Good a) = good a
 over good (Spoilt kind block) = alone 8 (bad_image_line (kind_name kind) block)
 over good Unread = alone 9 memory_fault_line
 

@@ -14,7 +14,7 @@ ghost use Rattle.image_model.specs.Checks.{is_last};
 ghost use Rattle.recovery.specs.Recovering.{shown_for_now};
 ghost use Rattle.recovery.specs.declared.fault.OpenFault.TheVariants as open_fault;
 ghost use Rattle.ccfs_top.specs.Ends.{IsPart, joined};
-ghost use Rattle.ccfs_top.specs.Left.{Kept, Halts, Done, DoneOn, HaltsOn};
+ghost use Rattle.ccfs_top.specs.Outcomes.{CrashSafe, Halts, Done, DoneOn, HaltsOn};
 ghost use Rattle.front_core.specs.Fronts.{new_front};
 ghost use Rattle.ccfs_top.specs.Runs.{image_by, ran, over};
 ghost use Rattle.ccfs_top.specs.Sessions.{Settled};
@@ -111,7 +111,7 @@ fn run_session<D: Disk, K: Sink>(
     requires working { session.volume.failed ≡ false }
     requires last { is_last (journal_of session.volume.half).last session.first ≡ true }
     ensures done { D.tells → IfOk result (λ done. Done D.Disk session.volume.disk done.disk calls.now (image_by session.first session.front) done.batches K.tells (K.held out.old) (K.held out.new)) }
-    ensures halts { D.tells → IfErr result (λ refused. Halts (ran (image_by session.first session.front) calls.now) refused.fault (Kept D.Disk session.volume.disk refused.kept (image_by session.first session.front) calls.now) K.tells (K.held out.old) (K.held out.new)) }
+    ensures halts { D.tells → IfErr result (λ refused. Halts (ran (image_by session.first session.front) calls.now) refused.fault (CrashSafe D.Disk session.volume.disk refused.kept (image_by session.first session.front) calls.now) K.tells (K.held out.old) (K.held out.new)) }
     ensures sink_cause { IfErr result (λ refused. refused.fault ≡ Stop.Sink → Rose (K.faults out.old) (K.faults out.new)) }
     ensures sink_steady { OnOk result (K.faults out.new ≡ K.faults out.old) }
     ensures late { IfErr result (λ refused. IsLate refused.fault) }

@@ -1,7 +1,7 @@
 //! Images that are made.
 ghost use Rattle.std.specs.Prelude.{◌≡◌, ◌≤◌, ◌*◌, ◌^◌, ◌++◌, false, IfErr, OnOk, IsErrOf};
 ghost use Rattle.fault_counts.specs.Counts.{Rose};
-ghost use Rattle.ccfs_top.specs.Left.{IsNew};
+ghost use Rattle.ccfs_top.specs.Outcomes.{IsNew};
 ghost use Rattle.ccfs_top.specs.Runs.{fresh};
 ghost use Rattle.ccfs_top.specs.Steady.{Sure, Unmoved};
 ghost use Rattle.ccfs_top.specs.Stops.{Grew, IsFaultStop};

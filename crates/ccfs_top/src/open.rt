@@ -5,7 +5,7 @@ ghost use Rattle.gate_journal.specs.Halves.{journal_of};
 ghost use Rattle.recovery.specs.Opens.{Finds};
 ghost use Rattle.recovery.specs.Recovering.{recovered_for_now};
 ghost use Rattle.atomic_volume.specs.Held.{contents_by};
-ghost use Rattle.ccfs_top.specs.Left.{IsShut};
+ghost use Rattle.ccfs_top.specs.Outcomes.{IsShut};
 ghost use Rattle.recovery.specs.declared.fault.OpenFault.TheVariants as open_fault;
 ghost use Rattle.ccfs_top.specs.Found.{IsFound};
 ghost use Rattle.ccfs_top.specs.Images.{IsImage};

@@ -4,7 +4,7 @@ ghost use Rattle.fault_counts.specs.Counts.{Rose};
 ghost use Rattle.gate_journal.specs.Runs.{Quiet};
 ghost use Rattle.tree_model.specs.Rows.{Rows};
 ghost use Rattle.ccfs_top.specs.Ends.{joined};
-ghost use Rattle.ccfs_top.specs.Images.{Finding, Holds, Finds, RecoversTo};
+ghost use Rattle.ccfs_top.specs.Images.{Finding, Good, Finds, RecoversTo};
 ghost use Rattle.ccfs_top.specs.Runs.{over, printed};
 ghost use Rattle.ccfs_top.specs.Steady.{Unmoved};
 ghost use Rattle.ccfs_top.specs.Stops.{Decides, Grew, IsLate};

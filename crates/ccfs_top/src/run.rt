@@ -8,7 +8,7 @@ ghost use Rattle.std.specs.List.{All};
 ghost use Rattle.ccfs_base.specs.Fits.{fits_command};
 ghost use Rattle.image_model.specs.Checks.{is_last};
 ghost use Rattle.ccfs_top.specs.Ends.{IsPart, joined};
-ghost use Rattle.ccfs_top.specs.Left.{Kept, Halts};
+ghost use Rattle.ccfs_top.specs.Outcomes.{CrashSafe, Halts};
 ghost use Rattle.ccfs_top.specs.Runs.{image_by, replies, final_number, final_tree, ran};
 ghost use Rattle.ccfs_top.specs.Sessions.{Settled, Shows};
 ghost use Rattle.front_core.specs.Fronts.{new_front};
@@ -72,8 +72,8 @@ pub fn perform_all<D: Disk, K: Sink>(
     ensures shows { OnOk result (Shows session.new.volume.geometry session.new.volume.half session.new.volume.volume.items
         (final_number (image_by session.old.first session.old.front) calls.now) (picture (final_tree (image_by session.old.first session.old.front) calls.now))) }
     ensures working { OnOk result (session.new.volume.failed ≡ false) }
-    ensures kept { D.tells → OnOk result (Kept D.Disk session.old.volume.disk session.new.volume.disk (image_by session.old.first session.old.front) calls.now (length (replies (image_by session.old.first session.old.front) calls.now))) }
-    ensures halts { D.tells → IfErr result (λ stop. Halts (ran (image_by session.old.first session.old.front) calls.now) stop (Kept D.Disk session.old.volume.disk session.new.volume.disk (image_by session.old.first session.old.front) calls.now) K.tells (K.held out.old) (K.held out.new)) }
+    ensures kept { D.tells → OnOk result (CrashSafe D.Disk session.old.volume.disk session.new.volume.disk (image_by session.old.first session.old.front) calls.now (length (replies (image_by session.old.first session.old.front) calls.now))) }
+    ensures halts { D.tells → IfErr result (λ stop. Halts (ran (image_by session.old.first session.old.front) calls.now) stop (CrashSafe D.Disk session.old.volume.disk session.new.volume.disk (image_by session.old.first session.old.front) calls.now) K.tells (K.held out.old) (K.held out.new)) }
     ensures fault { IfErr result (λ stop. IsFaultStop stop) }
     ensures later { D.faults session.old.volume.disk ≤ D.faults session.new.volume.disk }
     ensures sink_later { K.faults out.old ≤ K.faults out.new }

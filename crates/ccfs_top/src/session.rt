@@ -16,7 +16,7 @@ ghost use Rattle.front_core.specs.Fronts.{next_history, seals_of};
 ghost use Rattle.ccfs_top.specs.Runs.{further};
 ghost use Rattle.ccfs_top.specs.Stages.{Failed, is_sync_form};
 ghost use Rattle.ccfs_top.specs.Steady.{Rises, Steady};
-ghost use Rattle.ccfs_top.specs.Taken.{next_batch, journal_for, HasOneMore, room_in, taken_by, size_at, HasTaken};
+ghost use Rattle.ccfs_top.specs.JournalSpace.{next_batch, journal_for, HasOneMore, space_used, taken_by, size_at, HasTaken};
 ghost use Rattle.ccfs_top.specs.Sessions.{Settled, ShowsOneOf, IsStepped};
 
 use atomic_volume::{Volume, VolumeFault};
@@ -90,7 +90,7 @@ fn stop_of_commit(fault: VolumeFault) -> StepFault
 
 /// Makes room for a batch: where it doesn't fit the half in use, a checkpoint moves what is in it home, and the other half takes the batch.
 /// Where it fits, nothing is done. `Device` is the only fault, and comes only where the disk's faults rose.
-fn make_room<D: Disk>(volume: &mut Volume<D>, batch: &Batch) -> Result<(), StepFault>
+fn make_space<D: Disk>(volume: &mut Volume<D>, batch: &Batch) -> Result<(), StepFault>
     requires working { volume.old.failed ≡ false }
     requires follows { MayFollow (size_of volume.old.half) (journal_of volume.old.half) batch.now }
     ensures geometry { volume.new.geometry ≡ volume.old.geometry }
@@ -126,7 +126,7 @@ impl<D: Disk> Session<D> {
         ensures written { OnOk result (self.new.written ≡ self.old.written + 1) }
         ensures settled { OnOk result (Settled self.new.volume.geometry self.new.volume.volume.items self.new.metadata self.new.front self.new.first self.new.written) }
         ensures journal { OnOk result (HasOneMore self.old.volume.half (next_batch self.old.metadata self.old.front self.old.first self.old.written) self.new.volume.half) }
-        ensures taken { OnOk result (room_in (journal_of self.new.volume.half) ≡ taken_by (room_in (journal_of self.old.volume.half)) (size_at self.old.front self.old.written)) }
+        ensures taken { OnOk result (space_used (journal_of self.new.volume.half) ≡ taken_by (space_used (journal_of self.old.volume.half)) (size_at self.old.front self.old.written)) }
         ensures last { OnOk result (is_last (journal_of self.new.volume.half).last (further self.new.first self.new.written) ≡ true) }
         ensures working { OnOk result (self.new.volume.failed ≡ false) }
         ensures geometry { self.new.volume.geometry ≡ self.old.volume.geometry }
@@ -143,7 +143,7 @@ impl<D: Disk> Session<D> {
         let Ok(batch) = self.metadata.batch(alloc, number, &sealed.recs) else {
             return Err(StepFault::NoMemory);
         };
-        make_room(&mut self.volume, &batch)?;
+        make_space(&mut self.volume, &batch)?;
         match self.volume.commit(&batch) {
             Ok(()) => {
                 self.written += 1;

@@ -8,7 +8,7 @@ ghost use Rattle.gate_journal.specs.Runs.{Quiet};
 ghost use Rattle.ccfs_top.specs.Asked.{Mkfs, Run, Tree, IsStatusOf, asked_by};
 ghost use Rattle.ccfs_top.specs.Ends.{EndsWith, IsEarly, IsMadeStatus, IsRefusal, IsRunStatus, IsTreeStatus, Wrote};
 ghost use Rattle.ccfs_top.specs.Images.{Unread};
-ghost use Rattle.ccfs_top.specs.Left.{DoneOn, HaltsOn, Ran, Printed, IsNew};
+ghost use Rattle.ccfs_top.specs.Outcomes.{DoneOn, HaltsOn, Ran, Printed, IsNew};
 ghost use Rattle.ccfs_top.specs.Runs.{IsReady, IsUnready, alone, calls_in, expected, fresh};
 ghost use Rattle.ccfs_top.specs.Steady.{Rises, Steady, StoppedBySource, Sure, Unmoved};
 ghost use Rattle.ccfs_top.specs.Stops.{Decides, IsLate, Told, SaidOf};

@@ -7,7 +7,7 @@ use Rattle.history_model.specs.Histories.{start, IsLegal, durable}
 use Rattle.history_laws.proofs.Meant.{images_mean_cuts}
 use Rattle.script_text.specs.declared.scripts.Call.{Call}
 use Rattle.ccfs_top.specs.Images.{Image}
-use Rattle.ccfs_top.specs.Left.{Within, first_history}
+use Rattle.ccfs_top.specs.Outcomes.{Within, first_history}
 use Rattle.crash_meaning.specs.Meaning.{Means, calls_asked, under_way}
 use Rattle.crash_meaning.specs.Laws.{CrashesMeanCuts, MomentsMeanCuts, ScriptCrashesMeanCuts, ScriptMomentsMeanCuts, RunsMeanCuts}
 use Rattle.crash_meaning.proofs.Trees.{these_for_now}

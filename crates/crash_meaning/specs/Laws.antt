@@ -14,7 +14,7 @@ use Rattle.script_text.specs.declared.scripts.Call.{Call}
 use Rattle.recovery.specs.Recovering.{recovered, recovered_for_now}
 use Rattle.ccfs_top.specs.Images.{Image, IsImage}
 use Rattle.ccfs_top.specs.Reached.{history_to}
-use Rattle.ccfs_top.specs.Left.{Within, first_history, Kept}
+use Rattle.ccfs_top.specs.Outcomes.{Within, first_history, CrashSafe}
 use Rattle.crash_meaning.specs.Meaning.{Means, calls_asked, answered, under_way, MeansRun}
 
 -- ---- images
@@ -91,5 +91,5 @@ ScriptMomentsMeanCuts = (image : Image) (found script : List ℕ) (i : ℕ) (c :
 -- What a run of a script leaves on a disk means this.
 abbrev pub RunsMeanCuts : {X : Type 0} → Ghosts X → Type 0
 RunsMeanCuts {X} d = (old new : X) (image : Image) (found script : List ℕ) (lines : ℕ)
-    → IsImage image found → Kept d old new image (calls_asked script) lines
+    → IsImage image found → CrashSafe d old new image (calls_asked script) lines
     → MeansRun d old new image (calls_asked script) lines

@@ -11,7 +11,7 @@ use Rattle.gate_journal.specs.Runs.{LeavesBy}
 use Rattle.recovery.specs.Recovering.{shown_for_now}
 use Rattle.ccfs_top.specs.Images.{Image}
 use Rattle.ccfs_top.specs.Runs.{further, history, calls_in}
-use Rattle.ccfs_top.specs.Left.{first_history}
+use Rattle.ccfs_top.specs.Outcomes.{first_history}
 
 -- Bytes that mean a cut of a history over an image. The calls of h were answered, and those of `more` came behind them. Where
 -- `0 mkdir /a`, a sync and `0 mkdir /b` were answered, and a second sync was under way, they have `/a`, and `/b` or not.

@@ -18,10 +18,10 @@ pub struct DeltaLog {
 }
 
 impl Model for DeltaLog {
-    ghost use Rattle.record_logs.specs.Kept.{Kept, log_of};
+    ghost use Rattle.record_logs.specs.Kept.{LogLists, log_of};
     ghost use Rattle.delta_log.specs.Deltas.{AreDeltas};
 
-    ghost Value = { Kept };
+    ghost Value = { LogLists };
 
     ghost view = { λ a. a.logs };
 

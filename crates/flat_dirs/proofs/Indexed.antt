@@ -12,7 +12,7 @@ use Rattle.std.proofs.lemmas.Bool.{and_parts, and_from, eqb-true, eq-eqb}
 use Rattle.std.proofs.lemmas.Slice.Eq.{bytes_eq-Decides}
 use Rattle.flat_dirs.specs.declared.slot.Slot.{Slot}
 use Rattle.flat_dirs.specs.Slots.{SlotMap, is_at, is_slot_at}
-use Rattle.flat_dirs.specs.Index.{Place, place_cmp, place_of, Sets, IsIndex}
+use Rattle.flat_dirs.specs.Index.{SlotKey, place_cmp, place_of, Sets, IsIndex}
 use Rattle.flat_dirs.proofs.Places.{place_test}
 
 -- ---- what is to be shown: of the inode that changed, and of the others
@@ -46,19 +46,19 @@ and_false true = refl
 and_false false = refl
 
 -- at the inode itself, it is as the slot says
-set_here : (was now : BTreeSet Place) (k : ℕ) (s : Slot) (b : Bool) (p : ℕ) (n : List ℕ) (i : ℕ) → Sets was now (place_of k s) b → (k == i) ≡ true
+set_here : (was now : BTreeSet SlotKey) (k : ℕ) (s : Slot) (b : Bool) (p : ℕ) (n : List ℕ) (i : ℕ) → Sets was now (place_of k s) b → (k == i) ≡ true
     → contains place_cmp now (p, n, i) ≡ cond (is_at p n s) b (contains place_cmp was (p, n, i))
 set_here was now k s b p n i h e =
     h (p, n, i) ∙ ap (λ t. cond t b (contains place_cmp was (p, n, i))) (place_test (place_of k s) (p, n, i) ∙ ap (λ t. is_at p n s && t) e ∙ and_true (is_at p n s))
 
 -- at another inode, it is as before
-set_there : (was now : BTreeSet Place) (k : ℕ) (s : Slot) (b : Bool) (p : ℕ) (n : List ℕ) (i : ℕ) → Sets was now (place_of k s) b → (k == i) ≡ false
+set_there : (was now : BTreeSet SlotKey) (k : ℕ) (s : Slot) (b : Bool) (p : ℕ) (n : List ℕ) (i : ℕ) → Sets was now (place_of k s) b → (k == i) ≡ false
     → contains place_cmp now (p, n, i) ≡ contains place_cmp was (p, n, i)
 set_there was now k s b p n i h e =
     h (p, n, i) ∙ ap (λ t. cond t b (contains place_cmp was (p, n, i))) (place_test (place_of k s) (p, n, i) ∙ ap (λ t. is_at p n s && t) e ∙ and_false (is_at p n s))
 
 -- what the index says of an inode with this slot
-of_inode : (m : SlotMap) (at : BTreeSet Place) (k : ℕ) (o : Option Slot) (p : ℕ) (n : List ℕ) (i : ℕ) → IsIndex m at → get m k ≡ o → (k == i) ≡ true
+of_inode : (m : SlotMap) (at : BTreeSet SlotKey) (k : ℕ) (o : Option Slot) (p : ℕ) (n : List ℕ) (i : ℕ) → IsIndex m at → get m k ≡ o → (k == i) ≡ true
     → contains place_cmp at (p, n, i) ≡ is_slot_at o p n
 of_inode m at k o p n i index is e =
     index p n i ∙ ap (λ z. is_slot_at (get m z) p n) (sym (eqb-true k i e)) ∙ ap (λ z. is_slot_at z p n) is
@@ -87,21 +87,21 @@ moved false false h = refl
 
 -- ---- the calls
 -- a slot put where there was none
-pub put_new : (m : SlotMap) (was now : BTreeSet Place) (k : ℕ) (s : Slot) → IsIndex m was → get m k ≡ None → Sets was now (place_of k s) true → IsIndex (insert m k s) now
+pub put_new : (m : SlotMap) (was now : BTreeSet SlotKey) (k : ℕ) (s : Slot) → IsIndex m was → get m k ≡ None → Sets was now (place_of k s) true → IsIndex (insert m k s) now
 put_new m was now k s index none sets p n i =
     put_by_inode m k s p n i _
     (λ e. set_here was now k s true p n i sets e ∙ ap (cond (is_at p n s) true) (of_inode m was k None p n i index none e) ∙ settled (is_at p n s))
     (λ e. set_there was now k s true p n i sets e ∙ index p n i)
 
 -- a slot put in its own place
-pub put_same : (m : SlotMap) (was now : BTreeSet Place) (k : ℕ) (s : Slot) → IsIndex m was → get m k ≡ Some s → Sets was now (place_of k s) true → IsIndex (insert m k s) now
+pub put_same : (m : SlotMap) (was now : BTreeSet SlotKey) (k : ℕ) (s : Slot) → IsIndex m was → get m k ≡ Some s → Sets was now (place_of k s) true → IsIndex (insert m k s) now
 put_same m was now k s index is sets p n i =
     put_by_inode m k s p n i _
     (λ e. set_here was now k s true p n i sets e ∙ ap (cond (is_at p n s) true) (of_inode m was k (Some s) p n i index is e) ∙ agreed (is_at p n s) (is_at p n s) refl)
     (λ e. set_there was now k s true p n i sets e ∙ index p n i)
 
 -- a slot put in the place of another
-pub put_other : (m : SlotMap) (was more now : BTreeSet Place) (k : ℕ) (old s : Slot) → IsIndex m was → get m k ≡ Some old
+pub put_other : (m : SlotMap) (was more now : BTreeSet SlotKey) (k : ℕ) (old s : Slot) → IsIndex m was → get m k ≡ Some old
     → ((p : ℕ) (n : List ℕ) → is_at p n old ≡ true → is_at p n s ≡ false)
     → Sets was more (place_of k s) true → Sets more now (place_of k old) false → IsIndex (insert m k s) now
 put_other m was more now k old s index is apart adds drops p n i =
@@ -112,7 +112,7 @@ put_other m was more now k old s index is apart adds drops p n i =
     (λ e. set_there more now k old false p n i drops e ∙ set_there was more k s true p n i adds e ∙ index p n i)
 
 -- a place put in and taken out again
-pub put_undone : (m : SlotMap) (was more now : BTreeSet Place) (k : ℕ) (s : Slot) → IsIndex m was → get m k ≡ None
+pub put_undone : (m : SlotMap) (was more now : BTreeSet SlotKey) (k : ℕ) (s : Slot) → IsIndex m was → get m k ≡ None
     → Sets was more (place_of k s) true → Sets more now (place_of k s) false → IsIndex m now
 put_undone m was more now k s index none adds drops p n i =
     elim (k == i) as (λ b. (k == i) ≡ b → contains place_cmp now (p, n, i) ≡ is_slot_at (get m i) p n) [
@@ -124,14 +124,14 @@ put_undone m was more now k s index none adds drops p n i =
     ] refl
 
 -- a slot taken out
-pub taken_out : (m : SlotMap) (was now : BTreeSet Place) (k : ℕ) (old : Slot) → IsIndex m was → get m k ≡ Some old → Sets was now (place_of k old) false → IsIndex (remove m k) now
+pub taken_out : (m : SlotMap) (was now : BTreeSet SlotKey) (k : ℕ) (old : Slot) → IsIndex m was → get m k ≡ Some old → Sets was now (place_of k old) false → IsIndex (remove m k) now
 taken_out m was now k old index is drops p n i =
     removed_by_inode m k p n i _
     (λ e. set_here was now k old false p n i drops e ∙ ap (cond (is_at p n old) false) (of_inode m was k (Some old) p n i index is e) ∙ struck (is_at p n old))
     (λ e. set_there was now k old false p n i drops e ∙ index p n i)
 
 -- no slot taken out
-pub none_taken : (m : SlotMap) (was : BTreeSet Place) (k : ℕ) → IsIndex m was → get m k ≡ None → IsIndex (remove m k) was
+pub none_taken : (m : SlotMap) (was : BTreeSet SlotKey) (k : ℕ) → IsIndex m was → get m k ≡ None → IsIndex (remove m k) was
 none_taken m was k index none p n i =
     removed_by_inode m k p n i _ (λ e. of_inode m was k None p n i index none e) (λ e. index p n i)
 

@@ -24,18 +24,18 @@ use Rattle.std.proofs.lemmas.Map.Keys.{le_from_not_gt}
 use Rattle.std.proofs.lemmas.Map.Text.{is_eq-slice_cmp}
 use Rattle.flat_dirs.specs.declared.slot.Slot.{Slot}
 use Rattle.flat_dirs.specs.Slots.{SlotMap, name_cmp, named_among, entries_in, is_slot_at}
-use Rattle.flat_dirs.specs.Index.{Place, place_cmp, is_below, IsIndex}
+use Rattle.flat_dirs.specs.Index.{SlotKey, place_cmp, is_below, IsIndex}
 use Rattle.flat_dirs.proofs.Places.{both_tie, first_not_above, never_below, place_test}
 use Rattle.flat_dirs.proofs.Scan.{not_both, is_true, none_above, passed_by}
 
 -- ---- the run of a directory's places
 -- the places from the front on that are in this directory
-abbrev pub run : ℕ → List Place → List Place
+abbrev pub run : ℕ → List SlotKey → List SlotKey
 run p [] = []
 run p (k ∷ ks) = cond (is_below p k) (k ∷ run p ks) []
 
 -- the places from the first possible one of this directory on
-abbrev pub from_dir : ℕ → List Place → List Place
+abbrev pub from_dir : ℕ → List SlotKey → List SlotKey
 from_dir p ks = filter (range_contains place_cmp (Included (p, [], 0)) Unbounded) ks
 
 not_later : (o : Ordering) → is_gt o ≡ false → is_le o ≡ true
@@ -48,7 +48,7 @@ lowest_name [] i = not_later (nat_cmp 0 i) (never_below i)
 lowest_name (b ∷ bs) i = refl
 
 -- behind a place of a later directory there is none of this
-none_behind : (p : ℕ) (k : Place) (ks : List Place) → p < k.0 → AllByRecursion (λ y. place_cmp k y ≡ Less) ks → filter (is_below p) ks ≡ []
+none_behind : (p : ℕ) (k : SlotKey) (ks : List SlotKey) → p < k.0 → AllByRecursion (λ y. place_cmp k y ≡ Less) ks → filter (is_below p) ks ≡ []
 none_behind p k [] later all = refl
 none_behind p k (y ∷ ys) later all =
     let above = first_not_above (nat_cmp k.0 y.0) _ (first_not_above _ (nat_cmp k.2 y.2) (ap is_gt all.0)) in
@@ -56,7 +56,7 @@ none_behind p k (y ∷ ys) later all =
     let out : (y.0 == p) ≡ false = ne_eqb y.0 p (λ e. absurd (omega arith)) in
     ap (λ b. cond b (y ∷ filter (is_below p) ys) (filter (is_below p) ys)) out ∙ none_behind p k ys later all.1
 
-pub run_is : (p : ℕ) (ks : List Place) → IsStrictlySortedBy place_cmp ks → run p (from_dir p ks) ≡ filter (is_below p) ks
+pub run_is : (p : ℕ) (ks : List SlotKey) → IsStrictlySortedBy place_cmp ks → run p (from_dir p ks) ≡ filter (is_below p) ks
 unfolding IsStrictlySortedBy
 run_is p [] s = refl
 run_is p (k ∷ ks) s =
@@ -78,20 +78,20 @@ run_is p (k ∷ ks) s =
     ] refl
 
 -- the run ends where nothing follows, and before a place of another directory
-pub run_done : (p : ℕ) (all : List ℕ) (r : List Place) → r ≡ [] → all ++ map (λ (k : Place). k.2) (run p r) ≡ all
-run_done p all r e = ap (λ z. all ++ map (λ (k : Place). k.2) (run p z)) e ∙ append-nil all
+pub run_done : (p : ℕ) (all : List ℕ) (r : List SlotKey) → r ≡ [] → all ++ map (λ (k : SlotKey). k.2) (run p r) ≡ all
+run_done p all r e = ap (λ z. all ++ map (λ (k : SlotKey). k.2) (run p z)) e ∙ append-nil all
 
-pub run_left : (p : ℕ) (all : List ℕ) (r rest : List Place) (k : Place) → r ≡ k ∷ rest → (k.0 ≡ p → ⊥) → all ++ map (λ (k : Place). k.2) (run p r) ≡ all
+pub run_left : (p : ℕ) (all : List ℕ) (r rest : List SlotKey) (k : SlotKey) → r ≡ k ∷ rest → (k.0 ≡ p → ⊥) → all ++ map (λ (k : SlotKey). k.2) (run p r) ≡ all
 run_left p all r rest k e out =
-    ap (λ z. all ++ map (λ (k : Place). k.2) (run p z)) e
-    ∙ ap (λ b. all ++ map (λ (k : Place). k.2) (cond b (k ∷ run p rest) [])) (ne_eqb k.0 p out)
+    ap (λ z. all ++ map (λ (k : SlotKey). k.2) (run p z)) e
+    ∙ ap (λ b. all ++ map (λ (k : SlotKey). k.2) (cond b (k ∷ run p rest) [])) (ne_eqb k.0 p out)
     ∙ append-nil all
 
 -- where a place of the directory follows, the run isn't over
-pub run_some : (p : ℕ) (all : List ℕ) (r rest : List Place) (k : Place) → r ≡ k ∷ rest → k.0 ≡ p → all ++ map (λ (k : Place). k.2) (run p r) ≡ [] → ⊥
+pub run_some : (p : ℕ) (all : List ℕ) (r rest : List SlotKey) (k : SlotKey) → r ≡ k ∷ rest → k.0 ≡ p → all ++ map (λ (k : SlotKey). k.2) (run p r) ≡ [] → ⊥
 run_some p all r rest k e here none =
-    not_empty all k.2 (map (λ (k : Place). k.2) (run p rest))
-    (sym (ap (λ z. all ++ map (λ (k : Place). k.2) (run p z)) e ∙ ap (λ b. all ++ map (λ (k : Place). k.2) (cond b (k ∷ run p rest) [])) (eq-eqb k.0 p here)) ∙ none)
+    not_empty all k.2 (map (λ (k : SlotKey). k.2) (run p rest))
+    (sym (ap (λ z. all ++ map (λ (k : SlotKey). k.2) (run p z)) e ∙ ap (λ b. all ++ map (λ (k : SlotKey). k.2) (cond b (k ∷ run p rest) [])) (eq-eqb k.0 p here)) ∙ none)
   where
     not_empty : (xs : List ℕ) (y : ℕ) (ys : List ℕ) → xs ++ y ∷ ys ≡ [] → ⊥
     not_empty [] y ys e = cc
@@ -127,25 +127,25 @@ abbrev pub marked : Bool → ℕ → Option ℕ
 marked b i = cond b (Some i) None
 
 -- ---- a directory's places by their names
-abbrev pairs : ℕ → List Place → List ((List ℕ × ℕ) × ℕ)
+abbrev pairs : ℕ → List SlotKey → List ((List ℕ × ℕ) × ℕ)
 pairs p [] = []
 pairs p (k ∷ ks) = cond (k.0 == p) (((k.1, k.2), k.2) ∷ pairs p ks) (pairs p ks)
 
-pairs_inodes : (p : ℕ) (ks : List Place) → map (λ e. e.1) (pairs p ks) ≡ map (λ (k : Place). k.2) (filter (is_below p) ks)
+pairs_inodes : (p : ℕ) (ks : List SlotKey) → map (λ e. e.1) (pairs p ks) ≡ map (λ (k : SlotKey). k.2) (filter (is_below p) ks)
 pairs_inodes p [] = refl
 pairs_inodes p (k ∷ ks) =
-    elim (k.0 == p) as (λ b. map (λ e. e.1) (cond b (((k.1, k.2), k.2) ∷ pairs p ks) (pairs p ks)) ≡ map (λ (k : Place). k.2) (cond b (k ∷ filter (is_below p) ks) (filter (is_below p) ks))) [
+    elim (k.0 == p) as (λ b. map (λ e. e.1) (cond b (((k.1, k.2), k.2) ∷ pairs p ks) (pairs p ks)) ≡ map (λ (k : SlotKey). k.2) (cond b (k ∷ filter (is_below p) ks) (filter (is_below p) ks))) [
       | true ↦ ap (λ l. k.2 ∷ l) (pairs_inodes p ks)
       | false ↦ pairs_inodes p ks
     ]
 
 -- of two places in one directory the names are in order
-names_less : (p : ℕ) (x y : Place) → x.0 ≡ p → y.0 ≡ p → place_cmp x y ≡ Less → name_cmp (x.1, x.2) (y.1, y.2) ≡ Less
+names_less : (p : ℕ) (x y : SlotKey) → x.0 ≡ p → y.0 ≡ p → place_cmp x y ≡ Less → name_cmp (x.1, x.2) (y.1, y.2) ≡ Less
 names_less p x y e f less =
     let tie : nat_cmp x.0 y.0 ≡ Equal = ap (λ z. nat_cmp z y.0) (e ∙ sym f) ∙ tied_itself nat_cmp_total y.0 in
     ap (λ o. ordering_then (ordering_then o (slice_cmp nat_cmp x.1 y.1)) (nat_cmp x.2 y.2)) (sym tie) ∙ less
 
-pairs_below : (p : ℕ) (x : Place) (ks : List Place) → x.0 ≡ p → AllByRecursion (λ y. place_cmp x y ≡ Less) ks → below_all name_cmp (x.1, x.2) (pairs p ks) ≡ true
+pairs_below : (p : ℕ) (x : SlotKey) (ks : List SlotKey) → x.0 ≡ p → AllByRecursion (λ y. place_cmp x y ≡ Less) ks → below_all name_cmp (x.1, x.2) (pairs p ks) ≡ true
 pairs_below p x [] e all = refl
 pairs_below p x (k ∷ ks) e all =
     elim (k.0 == p) as (λ b. (k.0 == p) ≡ b → below_all name_cmp (x.1, x.2) (cond b (((k.1, k.2), k.2) ∷ pairs p ks) (pairs p ks)) ≡ true) [
@@ -153,7 +153,7 @@ pairs_below p x (k ∷ ks) e all =
       | false ↦ λ h. pairs_below p x ks e all.1
     ] refl
 
-pairs_sorted : (p : ℕ) (ks : List Place) → IsStrictlySortedBy place_cmp ks → is_sorted name_cmp (pairs p ks) ≡ true
+pairs_sorted : (p : ℕ) (ks : List SlotKey) → IsStrictlySortedBy place_cmp ks → is_sorted name_cmp (pairs p ks) ≡ true
 unfolding IsStrictlySortedBy
 pairs_sorted p [] s = refl
 pairs_sorted p (k ∷ ks) s =
@@ -167,7 +167,7 @@ first_of : (t : Bool) (rest : Bool) (i k : ℕ) → (t ≡ true → i ≡ k) →
 first_of true rest i k same = ap (λ z. Some z) (sym (same refl))
 first_of false rest i k same = refl
 
-find_pairs : (p : ℕ) (n : List ℕ) (i : ℕ) (ks : List Place) → find name_cmp (n, i) (pairs p ks) ≡ marked (list_any (λ k. is_eq (place_cmp (p, n, i) k)) ks) i
+find_pairs : (p : ℕ) (n : List ℕ) (i : ℕ) (ks : List SlotKey) → find name_cmp (n, i) (pairs p ks) ≡ marked (list_any (λ k. is_eq (place_cmp (p, n, i) k)) ks) i
 find_pairs p n i [] = refl
 find_pairs p n i (k ∷ ks) =
     let rest = list_any (λ k. is_eq (place_cmp (p, n, i) k)) ks in
@@ -228,7 +228,7 @@ find_named p n i (e ∷ es) s =
     ] refl
 
 -- ---- both are the same
-pub places_listed : (m : SlotMap) (at : BTreeSet Place) (p : ℕ) → IsIndex m at → IsStrictlySortedBy place_cmp at.keys → map (λ (k : Place). k.2) (filter (is_below p) at.keys) ≡ entries_in m p
+pub places_listed : (m : SlotMap) (at : BTreeSet SlotKey) (p : ℕ) → IsIndex m at → IsStrictlySortedBy place_cmp at.keys → map (λ (k : SlotKey). k.2) (filter (is_below p) at.keys) ≡ entries_in m p
 places_listed m at p index ordered =
     let ps = pairs p at.keys in
     let sorted : T (is_sorted name_cmp ps) = subst T (sym (pairs_sorted p at.keys ordered)) tt in

@@ -12,7 +12,7 @@ use Rattle.std.specs.FinMap.{nat_cmp-IsAntisymmetric, slice_cmp-IsAntisymmetric}
 use Rattle.std.proofs.lemmas.Cmp.{nat_cmp_total, nat_list_cmp_total, then_total, on_total, tied_itself}
 use Rattle.std.proofs.lemmas.Map.Keys.{le_from_not_gt}
 use Rattle.std.proofs.lemmas.Map.Text.{is_eq-slice_cmp}
-use Rattle.flat_dirs.specs.Index.{Place, place_cmp}
+use Rattle.flat_dirs.specs.Index.{SlotKey, place_cmp}
 
 -- a directory and a name in it
 abbrev pub spot_cmp : ℕ × List ℕ → ℕ × List ℕ → Ordering
@@ -36,7 +36,7 @@ spot_parts x y e =
     (nat_cmp-IsAntisymmetric x.0 y.0 both.0, slice_cmp-IsAntisymmetric nat_cmp-IsAntisymmetric x.1 y.1 both.1)
 
 -- whether two places tie, by their parts
-pub place_test : (x y : Place) → is_eq (place_cmp x y) ≡ ((x.0 == y.0) && bytes_eq x.1 y.1) && (x.2 == y.2)
+pub place_test : (x y : SlotKey) → is_eq (place_cmp x y) ≡ ((x.0 == y.0) && bytes_eq x.1 y.1) && (x.2 == y.2)
 place_test x y =
     sym (tied_then (spot_cmp (x.0, x.1) (y.0, y.1)) (nat_cmp x.2 y.2))
     ∙ ap (λ b. b && is_eq (nat_cmp x.2 y.2)) (sym (tied_then (nat_cmp x.0 y.0) (slice_cmp nat_cmp x.1 y.1)))
@@ -58,7 +58,7 @@ not_apart a Equal e f g = e
 not_apart a Greater e f g = absurd (subst T g tt)
 
 -- what stands between two places of one directory and name is of that directory and name
-pub between : (p : ℕ) (n : List ℕ) (j : ℕ) (k : Place) → is_gt (place_cmp (p, n, 0) k) ≡ false → is_gt (place_cmp k (p, n, j)) ≡ false → (p ≡ k.0) × (n ≡ k.1)
+pub between : (p : ℕ) (n : List ℕ) (j : ℕ) (k : SlotKey) → is_gt (place_cmp (p, n, 0) k) ≡ false → is_gt (place_cmp k (p, n, j)) ≡ false → (p ≡ k.0) × (n ≡ k.1)
 between p n j k f g =
     let low = first_not_above (spot_cmp (p, n) (k.0, k.1)) _ f in
     let high = first_not_above (spot_cmp (k.0, k.1) (p, n)) _ g in

@@ -15,7 +15,7 @@ use Rattle.std.proofs.lemmas.Bool.{and_parts, eqb-true}
 use Rattle.std.proofs.lemmas.Cmp.{ranked, nat_cmp_total, tied_itself}
 use Rattle.flat_dirs.specs.declared.slot.Slot.{Slot}
 use Rattle.flat_dirs.specs.Slots.{SlotMap, is_at, find_among, find_in, is_slot_at, IsLeast}
-use Rattle.flat_dirs.specs.Index.{Place, place_cmp, IsIndex}
+use Rattle.flat_dirs.specs.Index.{SlotKey, place_cmp, IsIndex}
 
 pub is_true : (b : Bool) → T b → b ≡ true
 is_true true t = refl
@@ -85,12 +85,12 @@ least_is_found p n (e ∷ es) r test s is least =
       | false ↦ λ out. least_is_found p n es r test parts.1 (λ j. is j ∙ passed_by p n e es j parts.0 out) least
     ] refl
 
-pub found_is_least : (m : SlotMap) (at : BTreeSet Place) (p : ℕ) (n : List ℕ) (r : Option ℕ) → IsIndex m at → IsLeast (λ i. contains place_cmp at (p, n, i)) r → r ≡ find_in m p n
+pub found_is_least : (m : SlotMap) (at : BTreeSet SlotKey) (p : ℕ) (n : List ℕ) (r : Option ℕ) → IsIndex m at → IsLeast (λ i. contains place_cmp at (p, n, i)) r → r ≡ find_in m p n
 found_is_least m at p n r index least =
     least_is_found p n (entries m) r (λ i. contains place_cmp at (p, n, i)) (is_true _ (entries_sorted m)) (λ j. index p n j ∙ ap (λ o. is_slot_at o p n) (get-entries m j)) least
 
 -- the least by the index is the least by the slots
-pub least_by_slots : (m : SlotMap) (at : BTreeSet Place) (p : ℕ) (n : List ℕ) (r : Option ℕ) → IsIndex m at → IsLeast (λ i. contains place_cmp at (p, n, i)) r → IsLeast (λ i. is_slot_at (get m i) p n) r
+pub least_by_slots : (m : SlotMap) (at : BTreeSet SlotKey) (p : ℕ) (n : List ℕ) (r : Option ℕ) → IsIndex m at → IsLeast (λ i. contains place_cmp at (p, n, i)) r → IsLeast (λ i. is_slot_at (get m i) p n) r
 least_by_slots m at p n None index least = λ j. sym (index p n j) ∙ least j
 least_by_slots m at p n (Some i) index least = (sym (index p n i) ∙ least.0, λ j t. least.1 j (index p n j ∙ t))
 

@@ -6,7 +6,7 @@ ghost use Rattle.std.specs.List.Sorted.{IsStrictlySortedBy};
 ghost use Rattle.std.specs.Option.{option_copied};
 ghost use Rattle.flat_dirs.specs.Slots.{find_in, entries_in, is_slot_at, IsLeast, is_in, by_name};
 
-use super::index::{Place, all_below, enter, first_at, leave};
+use super::index::{SlotKey, all_below, enter, first_at, leave};
 use super::slot::Slot;
 use ccfs_base::{Name, NoMemory};
 use std::alloc::{AllocError, Global};
@@ -17,7 +17,7 @@ use std::marker::Model;
 #[derive(Drop)]
 pub struct Slots {
     slots: BTreeMap<u32, Slot>,
-    places: BTreeSet<Place>,
+    places: BTreeSet<SlotKey>,
 }
 
 impl Model for Slots {

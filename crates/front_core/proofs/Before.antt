@@ -18,7 +18,7 @@ use Rattle.front_core.specs.Pending.{txns_of, all_noted, IsHeld, IsDue, IsAsBefo
 use Rattle.front_core.specs.declared.pending.Pending.{Pending}
 
 -- transactions with other places and other memory for operations
-pub record AreTxnsKept (old new : txns.Kept) : Type 0 where
+pub record AreTxnsKept (old new : txns.TxnLists) : Type 0 where
   pub accounts : new.accounts ≡ old.accounts
   pub ops : new.ops ≡ old.ops
   pub gave_blocks : new.gave_blocks ≡ old.gave_blocks
@@ -26,7 +26,7 @@ pub record AreTxnsKept (old new : txns.Kept) : Type 0 where
   pub seals : new.seals ≡ old.seals
   pub queue : new.queue ≡ old.queue
 
-pub txns_same : (old new : txns.Kept) → new ≡ old → AreTxnsKept old new
+pub txns_same : (old new : txns.TxnLists) → new ≡ old → AreTxnsKept old new
 txns_same old new e = record {
   accounts = ap (λ z. z.accounts) e;
   ops = ap (λ z. z.ops) e;
@@ -36,7 +36,7 @@ txns_same old new e = record {
   queue = ap (λ z. z.queue) e;
 }
 
-pub txns_roomed : (old new : txns.Kept) (spaces : List ℕ) → new ≡ roomed old spaces → AreTxnsKept old new
+pub txns_roomed : (old new : txns.TxnLists) (spaces : List ℕ) → new ≡ roomed old spaces → AreTxnsKept old new
 txns_roomed old new spaces e = record {
   accounts = ap (λ z. z.accounts) e;
   ops = ap (λ z. z.ops) e;
@@ -46,7 +46,7 @@ txns_roomed old new spaces e = record {
   queue = ap (λ z. z.queue) e;
 }
 
-txns_kept : (old new : txns.Kept) (us : List Unsealed) → AreTxnsKept old new → AreTxnsOf old us → AreTxnsOf new us
+txns_kept : (old new : txns.TxnLists) (us : List Unsealed) → AreTxnsKept old new → AreTxnsOf old us → AreTxnsOf new us
 txns_kept old new us k a = record {
   own = λ s. subst (λ z. Rattle.stream_txn.specs.Accounts.IsSumOf (account_at z s) (Rattle.stream_txn.specs.Held.ops_at new.ops s) (of_stream s us)) (sym k.accounts)
       (subst (λ z. Rattle.stream_txn.specs.Accounts.IsSumOf (account_at old.accounts s) (Rattle.stream_txn.specs.Held.ops_at z s) (of_stream s us)) (sym k.ops) (a.own s));

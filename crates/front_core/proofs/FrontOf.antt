@@ -6,7 +6,7 @@ use Rattle.std.proofs.lemmas.Bool.{and_from, le-leb, eq-eqb}
 use Rattle.block_layout.specs.Sizes.{data_start, good_inodes}
 use Rattle.block_layout.specs.declared.geometry.Geometry.{Geometry}
 use Rattle.shared_meta.specs.Area.{area, area_of, AreSameAreas}
-use Rattle.stream_txn.specs.Kept.{Kept, AreTxnsOf, handed_out}
+use Rattle.stream_txn.specs.Kept.{TxnLists, AreTxnsOf, handed_out}
 use Rattle.cross_dep.specs.Books.{IsBookOf}
 use Rattle.tree_model.specs.declared.rows.Entry.{Entry}
 use Rattle.tree_model.specs.Rows.{Rows}
@@ -130,7 +130,7 @@ module _ (sizes : Sizes) (limit : ℕ) (t : Rows) (h : List Entry) (handed : ℕ
       }
 
   -- once all batches were handed out
-  pub handed_all : (s : State) (txns : Kept) (seals : ℕ) → IsFrontOf sizes limit t h handed s → txns ≡ handed_out s.pending.txns → seals ≡ txns.seals
+  pub handed_all : (s : State) (txns : TxnLists) (seals : ℕ) → IsFrontOf sizes limit t h handed s → txns ≡ handed_out s.pending.txns → seals ≡ txns.seals
       → IsFrontOf sizes limit t h seals (record {
         tree = s.tree;
         next = s.next;
@@ -141,7 +141,7 @@ module _ (sizes : Sizes) (limit : ℕ) (t : Rows) (h : List Entry) (handed : ℕ
   handed_all s txns seals front is told =
       let n = now_of sizes t h in
       let pending = front.left.pending in
-      let all : seals ≡ seal_count sizes (start t) h = told ∙ ap (λ (k : Kept). k.seals) is ∙ seals_told s front in
+      let all : seals ≡ seal_count sizes (start t) h = told ∙ ap (λ (k : TxnLists). k.seals) is ∙ seals_told s front in
       let none : seal_count sizes (start t) h - seals ≡ 0 = omega (arith, all) in
       record {
         kept = front.kept;
@@ -156,9 +156,9 @@ module _ (sizes : Sizes) (limit : ℕ) (t : Rows) (h : List Entry) (handed : ℕ
             book = pending.book;
             taken = pending.taken;
           };
-          seals = ap (λ (k : Kept). k.seals) is ∙ front.left.seals;
+          seals = ap (λ (k : TxnLists). k.seals) is ∙ front.left.seals;
         };
-        queue = ap (λ (k : Kept). k.queue) is ∙ sym (ap (batches_from sizes t s.inodes.items h seals) none);
+        queue = ap (λ (k : TxnLists). k.queue) is ∙ sym (ap (batches_from sizes t s.inodes.items h seals) none);
         handed_out = omega (arith, all);
         good = front.good;
         few = front.few;

@@ -9,7 +9,7 @@ use Rattle.stream_cuts.specs.Forced.{is_open, is_forced}
 use Rattle.stream_txn.specs.declared.updates.Unsealed.{Unsealed}
 use Rattle.stream_txn.specs.Updates as txns
 use Rattle.stream_txn.specs.Accounts.{account_at}
-use Rattle.stream_txn.specs.Kept.{Kept, AreTxnsOf}
+use Rattle.stream_txn.specs.Kept.{TxnLists, AreTxnsOf}
 use Rattle.cross_dep.specs.Books.{is_met}
 use Rattle.tree_model.specs.declared.rows.Update.{Update}
 use Rattle.tree_model.specs.Keys.{meets}
@@ -53,16 +53,16 @@ any_there inodes s (e ∷ h) = let rest = any_there inodes s h in
     ]
 
 -- a stream is open where it has an unsealed update
-pub open_told : (k : Kept) (inodes : List ℕ) (h : List (ℕ × Charged)) (s : ℕ) → AreTxnsOf k (txns_of inodes h) → (account_at k.accounts s).is_open ≡ is_open h s
+pub open_told : (k : TxnLists) (inodes : List ℕ) (h : List (ℕ × Charged)) (s : ℕ) → AreTxnsOf k (txns_of inodes h) → (account_at k.accounts s).is_open ≡ is_open h s
 open_told k inodes h s a = (a.own s).is_open ∙ ap txns.has_any (txns_of_stream inodes s h) ∙ any_there inodes s h
 
 -- ---- sums
 
-pub weight_told : (k : Kept) (inodes : List ℕ) (h : List (ℕ × Charged)) (s : ℕ) → AreTxnsOf k (txns_of inodes h) → (account_at k.accounts s).weight ≡ unsealed_weight s h
+pub weight_told : (k : TxnLists) (inodes : List ℕ) (h : List (ℕ × Charged)) (s : ℕ) → AreTxnsOf k (txns_of inodes h) → (account_at k.accounts s).weight ≡ unsealed_weight s h
 weight_told k inodes h s a =
     (a.own s).weight ∙ ap txns.weight_of (txns_of_stream inodes s h) ∙ weights_of inodes (reverse (of_stream s h)) ∙ sum_reverse (λ e. e.1.1.weight) (of_stream s h)
 
-pub rows_told : (k : Kept) (inodes : List ℕ) (h : List (ℕ × Charged)) → AreTxnsOf k (txns_of inodes h) → k.gave_rows ≡ unsealed_rows h
+pub rows_told : (k : TxnLists) (inodes : List ℕ) (h : List (ℕ × Charged)) → AreTxnsOf k (txns_of inodes h) → k.gave_rows ≡ unsealed_rows h
 rows_told k inodes h a = a.gave_rows ∙ rows_given_of inodes (reverse h) ∙ sum_reverse (λ e. e.1.1.gave_rows) h
 
 pub other_rows_told : (inodes : List ℕ) (h : List (ℕ × Charged)) (s : ℕ) → txns.rows_of (txns.all_but (Some s) (txns_of inodes h)) ≡ unsealed_rows (without s h)

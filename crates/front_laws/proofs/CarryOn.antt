@@ -20,7 +20,7 @@ use Rattle.history_laws.proofs.Runs.{sound_start}
 use Rattle.image_model.specs.Volumes.{Volume, table_of, data_blocks}
 use Rattle.image_model.specs.Changes.{Change, changed, all_records, with_records, files_changed}
 use Rattle.image_model.specs.ChangeLaws.{IsSized, AreBesideSame}
-use Rattle.image_model.proofs.ChangingFields.{HasRoom, has_room}
+use Rattle.image_model.proofs.ChangingFields.{HasSpace, has_space}
 use Rattle.image_model.proofs.CarriedTables.{row_there}
 use Rattle.carried_volumes.specs.Carried.{Carried, no_bytes}
 use Rattle.update_records.specs.Batches.{tree_after, changes_of_all, AllFit, AllNamed, AllHaveInodes}
@@ -114,7 +114,7 @@ ranges_before v t inodes us carried a first =
     let n : ℕ = v.inodes in
     let cs : List Change = changes_of_all inodes t (updates us) in
     let log : List Rec = records_of_all n inodes us in
-    let room : HasRoom v = has_room v carried.sized in
+    let room : HasSpace v = has_space v carried.sized in
     let stand : AllByRecursion (MayStand n) cs = all_stand n inodes t us (bounded v t inodes carried) a in
     let same : all_records n cs ≡ log = all_same n inodes t us a in
     let inside : AreInside (length v.bytes) log = subst (AreInside (length v.bytes)) same (all_inside n (length v.bytes) room.steps room.few room.long cs stand) in
@@ -142,7 +142,7 @@ batches_carry_on sizes t inodes h k v kept less same carried =
     let here : us ≡ reverse (of_stream w.1 (unsealed_after [] w.0)) = batch_is l k w in
     let ordered : AreOrdered inodes (of_stream w.1 (unsealed_after [] w.0)) = ordered_of_stream inodes w.1 (unsealed_after [] w.0)
     (ordered_after inodes n t [] w.0 held tt (ruled_first n inodes t [] w.0 _ (subst (IsRuled n inodes t []) w.3 ruled))) in
-    let room : HasRoom v = has_room v c.sized in
+    let room : HasSpace v = has_space v c.sized in
     let steps : n % 32 ≡ 0 = subst (λ (z : ℕ). z % 32 ≡ 0) same room.steps in
     let few : n ≤ 8192 = subst (λ (z : ℕ). z ≤ 8192) same room.few in
     let low : AreBounded n inodes now = subst (λ (z : ℕ). AreBounded z inodes now) same (bounded v now inodes c) in

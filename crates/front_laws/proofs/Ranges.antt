@@ -14,12 +14,12 @@ use Rattle.delta_log.specs.Deltas.{is_delta}
 use Rattle.delta_log.specs.Laws.{ranges_of, IsRangeFirst}
 use Rattle.inode_table.specs.declared.attrs.Kind.{Kind}
 use Rattle.inode_table.specs.Attrs.{attr_bytes}
-use Rattle.inode_table.specs.Records.{record_place}
+use Rattle.inode_table.specs.Records.{record_offset}
 use Rattle.flat_dirs.specs.Slot.{slot_bytes}
 use Rattle.tree_model.specs.declared.rows.Update.{Update}
 use Rattle.tree_model.specs.declared.rows.Update.TheVariants.{Make, Write, Resize, Remove, Move, Release}
 use Rattle.tree_cuts.specs.Calls.{Charged}
-use Rattle.image_model.specs.Fields.{slot_place}
+use Rattle.image_model.specs.Fields.{slot_offset}
 use Rattle.image_model.specs.Carrying.{inode_in}
 use Rattle.image_model.specs.Changes.{Change, New, Drop, Touch, Enter, Fill, new_attr, slot_of, marks, frees, kind_made, records_of, all_records, changes_of}
 use Rattle.image_model.proofs.Apart.{record_line, slot_line}
@@ -100,30 +100,30 @@ no_ranges (x ∷ xs) ys a = ((λ e. all_deltas x ys a), no_ranges xs ys a)
 
 module _ (n : ℕ) (steps : n % 32 ≡ 0) (few : n ≤ 8192) where
   -- the bits and the count of free inodes stand before the records
-  bit_record : (j i : ℕ) (on : Bool) (bytes : List ℕ) → j < n → AreFree (marks j on) (recs.Range (record_place i) bytes)
+  bit_record : (j i : ℕ) (on : Bool) (bytes : List ℕ) → j < n → AreFree (marks j on) (recs.Range (record_offset i) bytes)
   bit_record j i on bytes l = inl (λ p q. omega (arith, record_line i))
 
-  bit_slot : (j i : ℕ) (on : Bool) (bytes : List ℕ) → j < n → AreFree (marks j on) (recs.Range (slot_place n i) bytes)
+  bit_slot : (j i : ℕ) (on : Bool) (bytes : List ℕ) → j < n → AreFree (marks j on) (recs.Range (slot_offset n i) bytes)
   bit_slot j i on bytes l = inl (λ p q. omega (arith, slot_line n i steps))
 
-  count_record : (by i : ℕ) (bytes : List ℕ) → AreFree (frees by) (recs.Range (record_place i) bytes)
+  count_record : (by i : ℕ) (bytes : List ℕ) → AreFree (frees by) (recs.Range (record_offset i) bytes)
   count_record by i bytes = inl (λ x p q r s. omega (arith, record_line i))
 
-  count_slot : (by i : ℕ) (bytes : List ℕ) → AreFree (frees by) (recs.Range (slot_place n i) bytes)
+  count_slot : (by i : ℕ) (bytes : List ℕ) → AreFree (frees by) (recs.Range (slot_offset n i) bytes)
   count_slot by i bytes = inl (λ x p q r s. omega (arith, slot_line n i steps))
 
-  touch_slot : (j i : ℕ) (bytes : List ℕ) → j < n → AreFree (recs.Add (record_place j + 16) 1) (recs.Range (slot_place n i) bytes)
+  touch_slot : (j i : ℕ) (bytes : List ℕ) → j < n → AreFree (recs.Add (record_offset j + 16) 1) (recs.Range (slot_offset n i) bytes)
   touch_slot j i bytes l = inl (λ x p q r s. omega (arith, record_line j, slot_line n i steps))
 
-  touch_record : (j i : ℕ) (bytes : List ℕ) → length bytes ≡ 24 → j ≢ i → AreFree (recs.Add (record_place j + 16) 1) (recs.Range (record_place i) bytes)
+  touch_record : (j i : ℕ) (bytes : List ℕ) → length bytes ≡ 24 → j ≢ i → AreFree (recs.Add (record_offset j + 16) 1) (recs.Range (record_offset i) bytes)
   touch_record j i bytes long ne = inl (λ x p q r s. ne (omega (arith, record_line j, record_line i)))
 
   -- a record that is free of both ranges of a new inode, or of the range of a slot
-  past_new : (x : Rec) (i above : ℕ) (other : List ℕ) (what : Kind) → AreFree x (recs.Range (record_place i) (attr_bytes (new_attr what)))
-      → AreFree x (recs.Range (slot_place n i) (slot_bytes (slot_of above other))) → IsFreeOf (records_of n (New i above other what)) x
+  past_new : (x : Rec) (i above : ℕ) (other : List ℕ) (what : Kind) → AreFree x (recs.Range (record_offset i) (attr_bytes (new_attr what)))
+      → AreFree x (recs.Range (slot_offset n i) (slot_bytes (slot_of above other))) → IsFreeOf (records_of n (New i above other what)) x
   past_new x i above other what r l e = ((λ z. r), ((λ z. l), ((λ z. absurd (true_false z)), ((λ z. absurd (true_false z)), tt))))
 
-  past_slot : (x : Rec) (i above : ℕ) (other : List ℕ) → AreFree x (recs.Range (slot_place n i) (slot_bytes (slot_of above other)))
+  past_slot : (x : Rec) (i above : ℕ) (other : List ℕ) → AreFree x (recs.Range (slot_offset n i) (slot_bytes (slot_of above other)))
       → IsFreeOf (records_of n (Enter i above other)) x
   past_slot x i above other l e = ((λ z. l), tt)
 
@@ -146,7 +146,7 @@ module _ (n : ℕ) (steps : n % 32 ≡ 0) (few : n ≤ 8192) where
       ((λ e. absurd (true_false (sym e))), ((λ e. absurd (true_false (sym e))), (bit_new j i above other what true s.0, (count_new (2 ^ 64 - 1) i above other what, tt))))
   clear_one (Drop j) (New i above other what) s u p = (bit_new j i above other what false s, (count_new 1 i above other what, tt))
   clear_one (Touch j) (New i above other what) s u p = (
-    past_new (recs.Add (record_place j + 16) 1) i above other what (touch_record j i (attr_bytes (new_attr what)) (omega arith) p)
+    past_new (recs.Add (record_offset j + 16) 1) i above other what (touch_record j i (attr_bytes (new_attr what)) (omega arith) p)
         (touch_slot j i (slot_bytes (slot_of above other)) s),
     tt,
   )
@@ -155,7 +155,7 @@ module _ (n : ℕ) (steps : n % 32 ≡ 0) (few : n ≤ 8192) where
       ((λ e. absurd (true_false (sym e))), ((λ e. absurd (true_false (sym e))), (bit_enter j i above other true s.0, (count_enter (2 ^ 64 - 1) i above other, tt))))
   clear_one (Drop j) (Enter i above other) s u p = (bit_enter j i above other false s, (count_enter 1 i above other, tt))
   clear_one (Touch j) (Enter i above other) s u p =
-      (past_slot (recs.Add (record_place j + 16) 1) i above other (touch_slot j i (slot_bytes (slot_of above other)) s), tt)
+      (past_slot (recs.Add (record_offset j + 16) 1) i above other (touch_slot j i (slot_bytes (slot_of above other)) s), tt)
   clear_one (Enter j parent name) (Enter i above other) s u p = ((λ e. absurd (true_false (sym e))), tt)
   clear_one c (Drop i) s u p = no_ranges (records_of n c) (records_of n (Drop i)) (refl, (refl, tt))
   clear_one c (Touch i) s u p = no_ranges (records_of n c) (records_of n (Touch i)) (refl, tt)
@@ -173,7 +173,7 @@ module _ (n : ℕ) (steps : n % 32 ≡ 0) (few : n ≤ 8192) where
   one_first (New inode parent name kind) s =
       ((λ e. absurd (true_false (sym e))), ((λ e. absurd (true_false (sym e))), ((λ e. All-nil (AreFree (marks inode true))), ((λ e. All-nil (AreFree (frees (2 ^ 64 - 1)))), tt))))
   one_first (Drop inode) s = ((λ e. All-nil (AreFree (marks inode false))), ((λ e. All-nil (AreFree (frees 1))), tt))
-  one_first (Touch inode) s = ((λ e. All-nil (AreFree (recs.Add (record_place inode + 16) 1))), tt)
+  one_first (Touch inode) s = ((λ e. All-nil (AreFree (recs.Add (record_offset inode + 16) 1))), tt)
   one_first (Enter inode parent name) s = ((λ e. absurd (true_false (sym e))), tt)
   one_first (Fill inode bytes) s = absurd s
 

@@ -12,13 +12,13 @@ use Rattle.ccfs_base.specs.declared.records.Rec.{Rec}
 use Rattle.ccfs_base.specs.Records.{AreInside}
 use Rattle.ccfs_base.proofs.Kept.{name_few}
 use Rattle.flat_dirs.specs.Slot.{slot_bytes}
-use Rattle.inode_table.specs.Records.{record_place}
+use Rattle.inode_table.specs.Records.{record_offset}
 use Rattle.tree_model.specs.declared.rows.Update.{Update}
 use Rattle.tree_model.specs.declared.rows.Update.TheVariants.{Make, Write, Resize, Remove, Move, Release}
 use Rattle.tree_model.specs.Rows.{Rows}
 use Rattle.tree_model.specs.Updates.{apply}
 use Rattle.tree_cuts.specs.Calls.{Charge, Charged}
-use Rattle.image_model.specs.Fields.{slot_place}
+use Rattle.image_model.specs.Fields.{slot_offset}
 use Rattle.image_model.specs.Carrying.{inode_in}
 use Rattle.image_model.specs.Changes.{Change, New, Drop, Touch, Enter, Fill, slot_of, records_of, all_records, changes_of, files_after, files_changed}
 use Rattle.image_model.proofs.Apart.{record_line, slot_line}
@@ -43,10 +43,10 @@ MayStand n (Fill inode bytes) = ⊥
 slot_long : (parent : ℕ) (name : List ℕ) → length name ≤ 64 → length (slot_bytes (slot_of parent name)) ≡ 69
 slot_long parent name few = omega (arith, length-append name (replicate (64 - length name) 0), length-replicate {A = ℕ} (64 - length name) 0)
 
-slot_inside : (n i size long : ℕ) → n % 32 ≡ 0 → 12288 + 384 * n ≤ size → i < n → long ≡ 69 → slot_place n i + long ≤ size
+slot_inside : (n i size long : ℕ) → n % 32 ≡ 0 → 12288 + 384 * n ≤ size → i < n → long ≡ 69 → slot_offset n i + long ≤ size
 slot_inside n i size long steps room l e = omega (arith, slot_line n i steps)
 
-record_inside : (n i size from to : ℕ) → 12288 + 384 * n ≤ size → i < n → from + to ≤ 256 → record_place i + from + to ≤ size
+record_inside : (n i size from to : ℕ) → 12288 + 384 * n ≤ size → i < n → from + to ≤ 256 → record_offset i + from + to ≤ size
 record_inside n i size from to room l e = omega (arith, record_line i)
 
 bit_inside : (n i size : ℕ) → n ≤ 8192 → 12288 + 384 * n ≤ size → i < n → (8192 + i / 8 < size) × (i % 8 < 8)

@@ -6,7 +6,7 @@ use Rattle.disk_model.specs.Past.{length-patched, Torn-patched}
 use Rattle.gate_journal.specs.declared.batches.Range.{Range}
 use Rattle.gate_journal.specs.declared.batches.Batch.{Batch}
 use Rattle.gate_journal.specs.declared.halves.Half.{Half}
-use Rattle.gate_journal.specs.Places.{records_size}
+use Rattle.gate_journal.specs.Offsets.{records_size}
 use Rattle.gate_journal.specs.Batches.{batch_bytes, Fits}
 use Rattle.gate_journal.specs.Journal.{Journal, open_batches, journal}
 use Rattle.gate_journal.specs.Halves.{half_of, size_of, journal_of, Shows, fits, MayFollow, with_batch}

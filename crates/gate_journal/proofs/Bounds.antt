@@ -5,7 +5,7 @@ use Rattle.std.proofs.lemmas.List.Sums.{sum_by-append, sum_by-cons}
 use Rattle.byteorder.specs.Endian.{little_bytes}
 use Rattle.gate_journal.specs.declared.batches.Range.{Range}
 use Rattle.gate_journal.specs.declared.batches.Batch.{Batch}
-use Rattle.gate_journal.specs.Places.{records_size}
+use Rattle.gate_journal.specs.Offsets.{records_size}
 use Rattle.gate_journal.specs.Batches.{record_bytes, records_bytes, batch_bytes, batches_bytes, range_bytes, Stands, Fits}
 use Rattle.gate_journal.specs.Journal.{all_ranges}
 use Rattle.gate_journal.proofs.Sizes.{count_within, record_length}

@@ -1,6 +1,6 @@
 pub mod Sizes
 pub mod NumberBytes
-pub mod Fronts
+pub mod Prefixes
 pub mod ReadBatches
 pub mod WrittenBatches
 pub mod Gates

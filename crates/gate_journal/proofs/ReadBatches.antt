@@ -14,7 +14,7 @@ use Rattle.gate_journal.specs.declared.batches.Batch.{Batch}
 use Rattle.gate_journal.specs.Batches.{record_bytes, records_bytes, batch_bytes, batches_bytes, Stands, Fits, InARow, may_follow, range_of, range_at, put_first, range_then, ranges_at, batch_of, batch_and, batch_behind, batch_at, numbered, batch_then, batches_at, IsSpelled}
 use Rattle.gate_journal.specs.Journal.{last_after}
 use Rattle.gate_journal.proofs.NumberBytes.{IsByte, front_bytes, back_bytes, number_below, number_spelled}
-use Rattle.gate_journal.proofs.Fronts.{Front, cond_then, put_from}
+use Rattle.gate_journal.proofs.Prefixes.{Prefix, cond_then, put_from}
 
 -- ---- a record
 
@@ -56,7 +56,7 @@ record_spelled head body len size each =
     let short : little_bytes 4 (length body) ≡ drop 8 head = ap (little_bytes 4) size ∙ number_spelled 4 (drop 8 head) (omega arith) back ∙ take_all 4 (drop 8 head) (omega arith) in
     ap (λ z. z ++ body) (sym split) ∙ append_assoc (take 8 head) (drop 8 head) body ∙ ap (λ z. z ++ (drop 8 head ++ body)) (sym off) ∙ ap (λ z. little_bytes 8 (little_number 8 head) ++ (z ++ body)) (sym short)
 
-range_front : (size : ℕ) (bytes : List ℕ) (r : Range) (rest : List ℕ) → range_at size bytes ≡ Some (r, rest) → Front (range_at size) bytes r rest (record_bytes r) (Stands size r) (r.off < 2 ^ 64)
+range_front : (size : ℕ) (bytes : List ℕ) (r : Range) (rest : List ℕ) → range_at size bytes ≡ Some (r, rest) → Prefix (range_at size) bytes r rest (record_bytes r) (Stands size r) (r.off < 2 ^ 64)
 range_front size bytes r rest p =
     let found = cond_then (leb 12 (length bytes)) (range_of size (little_number 8 bytes) (little_number 4 (drop 8 bytes)) (drop 12 bytes)) (r, rest) p in
     let long : 12 ≤ length bytes = leb-true 12 (length bytes) found.0 in
@@ -71,7 +71,7 @@ range_front size bytes r rest p =
     let full : length body ≡ len = length-take-le len tail is.2 in
     let made : Range = record { off = off; bytes = body } in
     let back : tail ≡ body ++ rest = sym (take-append-drop len tail) ∙ ap (λ z. body ++ z) is.4 in
-    subst (λ (x : Range). Front (range_at size) bytes x rest (record_bytes x) (Stands size x) (x.off < 2 ^ 64)) is.3 (record {
+    subst (λ (x : Range). Prefix (range_at size) bytes x rest (record_bytes x) (Stands size x) (x.off < 2 ^ 64)) is.3 (record {
       front = head ++ body;
       whole = sym split ∙ ap (λ z. head ++ z) back ∙ sym (append_assoc head body rest);
       again = λ other. ap (range_at size) (append_assoc head body other) ∙ range_behind size head (body ++ other) twelve ∙ range_filled size off len body other full is.0 is.1;
@@ -94,10 +94,10 @@ ReadRanges size n ranges = All (Stands size) ranges × (length ranges ≡ n)
 abbrev pub ShortOffsets : List Range → Type 0
 ShortOffsets ranges = All (λ r. r.off < 2 ^ 64) ranges
 
-ranges_front : (size n : ℕ) (bytes : List ℕ) (all : List Range) (rest : List ℕ) → ranges_at size n bytes ≡ Some (all, rest) → Front (ranges_at size n) bytes all rest (records_bytes all) (ReadRanges size n all) (ShortOffsets all)
+ranges_front : (size n : ℕ) (bytes : List ℕ) (all : List Range) (rest : List ℕ) → ranges_at size n bytes ≡ Some (all, rest) → Prefix (ranges_at size n) bytes all rest (records_bytes all) (ReadRanges size n all) (ShortOffsets all)
 ranges_front size zero bytes all rest p =
     let parts = some_pair_parts [] all bytes rest p in
-    subst (λ (xs : List Range). Front (ranges_at size zero) bytes xs rest (records_bytes xs) (ReadRanges size zero xs) (ShortOffsets xs)) parts.0 (record {
+    subst (λ (xs : List Range). Prefix (ranges_at size zero) bytes xs rest (records_bytes xs) (ReadRanges size zero xs) (ShortOffsets xs)) parts.0 (record {
       front = [];
       whole = parts.1;
       again = λ other. refl;
@@ -113,7 +113,7 @@ ranges_front size (suc n) bytes all rest p =
     let first = range_front size bytes r one.0.1 one.1 in
     let second = ranges_front size n one.0.1 others rest more.1 in
     let front : List ℕ = first.front ++ second.front in
-    subst (λ (xs : List Range). Front (ranges_at size (suc n)) bytes xs rest (records_bytes xs) (ReadRanges size (suc n) xs) (ShortOffsets xs)) (sym more.2) (record {
+    subst (λ (xs : List Range). Prefix (ranges_at size (suc n)) bytes xs rest (records_bytes xs) (ReadRanges size (suc n) xs) (ShortOffsets xs)) (sym more.2) (record {
       front = front;
       whole = first.whole ∙ ap (λ z. first.front ++ z) second.whole ∙ sym (append_assoc first.front second.front rest);
       again = λ other. ap (λ z. range_then (ranges_at size n) (range_at size z)) (append_assoc first.front second.front other) ∙ ap (range_then (ranges_at size n)) (first.again (second.front ++ other)) ∙ ap (put_first r) (second.again other);
@@ -184,7 +184,7 @@ header_spelled head body records len size few each =
     ∙ ap (λ z. little_bytes 8 (little_number 8 head) ++ (z ++ (drop 12 head ++ body))) (sym two)
     ∙ ap (λ z. little_bytes 8 (little_number 8 head) ++ (little_bytes 4 (length body) ++ (z ++ body))) (sym three)
 
-batch_front : (size : ℕ) (bytes : List ℕ) (b : Batch) (rest : List ℕ) → batch_at size bytes ≡ Some (b, rest) → Front (batch_at size) bytes b rest (batch_bytes b) (All (Stands size) b.ranges) (Fits size b)
+batch_front : (size : ℕ) (bytes : List ℕ) (b : Batch) (rest : List ℕ) → batch_at size bytes ≡ Some (b, rest) → Prefix (batch_at size) bytes b rest (batch_bytes b) (All (Stands size) b.ranges) (Fits size b)
 batch_front size bytes b rest p =
     let found = cond_then (leb 16 (length bytes)) (batch_behind size (little_number 8 bytes) (little_number 4 (drop 8 bytes)) (little_number 4 (drop 12 bytes)) (drop 16 bytes)) (b, rest) p in
     let long : 16 ≤ length bytes = leb-true 16 (length bytes) found.0 in
@@ -204,7 +204,7 @@ batch_front size bytes b rest p =
     let inner = ranges_front size records body ranges [] is.3 in
     let filled : body ≡ inner.front = inner.whole ∙ append-nil inner.front in
     let length_is : length body ≡ length (records_bytes ranges) = ap length filled ∙ inner.len in
-    subst (λ (x : Batch). Front (batch_at size) bytes x rest (batch_bytes x) (All (Stands size) x.ranges) (Fits size x)) is.4 (record {
+    subst (λ (x : Batch). Prefix (batch_at size) bytes x rest (batch_bytes x) (All (Stands size) x.ranges) (Fits size x)) is.4 (record {
       front = head ++ body;
       whole = sym split ∙ ap (λ z. head ++ z) back ∙ sym (append_assoc head body rest);
       again = λ other. ap (batch_at size) (append_assoc head body other) ∙ batch_header size head (body ++ other) sixteen ∙ batch_filled size number count records body other ranges full is.3;
@@ -257,10 +257,10 @@ one_then size n before bytes b behind m p =
     ∙ ap (λ z. batch_then (λ number rest. batches_at size number n rest) (cond z (Some (b, behind)) None)) m
 
 batches_front : (size n : ℕ) (before : Option ℕ) (bytes : List ℕ) (all : List Batch) (rest : List ℕ) → batches_at size before n bytes ≡ Some (all, rest)
-    → Front (batches_at size before n) bytes all rest (batches_bytes all) (AreRead size before n all) (All (Fits size) all)
+    → Prefix (batches_at size before n) bytes all rest (batches_bytes all) (AreRead size before n all) (All (Fits size) all)
 batches_front size zero before bytes all rest p =
     let parts = some_pair_parts [] all bytes rest p in
-    subst (λ (xs : List Batch). Front (batches_at size before zero) bytes xs rest (batches_bytes xs) (AreRead size before zero xs) (All (Fits size) xs)) parts.0 (record {
+    subst (λ (xs : List Batch). Prefix (batches_at size before zero) bytes xs rest (batches_bytes xs) (AreRead size before zero xs) (All (Fits size) xs)) parts.0 (record {
       front = [];
       whole = parts.1;
       again = λ other. refl;
@@ -277,7 +277,7 @@ batches_front size (suc n) before bytes all rest p =
     let first = batch_front size bytes b one.0.1 found.0 in
     let second = batches_front size n (Some b.number) one.0.1 others rest more.1 in
     let front : List ℕ = first.front ++ second.front in
-    subst (λ (xs : List Batch). Front (batches_at size before (suc n)) bytes xs rest (batches_bytes xs) (AreRead size before (suc n) xs) (All (Fits size) xs)) (sym more.2) (record {
+    subst (λ (xs : List Batch). Prefix (batches_at size before (suc n)) bytes xs rest (batches_bytes xs) (AreRead size before (suc n) xs) (All (Fits size) xs)) (sym more.2) (record {
       front = front;
       whole = first.whole ∙ ap (λ z. first.front ++ z) second.whole ∙ sym (append_assoc first.front second.front rest);
       again = λ other. ap (batches_at size before (suc n)) (append_assoc first.front second.front other)

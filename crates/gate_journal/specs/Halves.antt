@@ -3,7 +3,7 @@ use Rattle.std.specs.Prelude.{◌≡◌, ℕ, ◌+◌, ◌≤◌, Bool, ◌&&◌
 use Rattle.std.specs.List.{All}
 use Rattle.gate_journal.specs.declared.batches.Batch.{Batch}
 use Rattle.gate_journal.specs.declared.halves.Half.{Half}
-use Rattle.gate_journal.specs.Places.{records_size, halves_end}
+use Rattle.gate_journal.specs.Offsets.{records_size, halves_end}
 use Rattle.gate_journal.specs.Batches.{batch_bytes, Stands, may_follow}
 use Rattle.gate_journal.specs.Journal.{Journal, journal}
 

@@ -4,7 +4,7 @@ use Rattle.std.specs.List.{list_any, position_or_len}
 use Rattle.disk_model.specs.Bytes.{part}
 use Rattle.gate_journal.specs.declared.batches.Range.{Range}
 use Rattle.gate_journal.specs.declared.batches.Batch.{Batch}
-use Rattle.gate_journal.specs.Places.{gates_start, records_start, records_size}
+use Rattle.gate_journal.specs.Offsets.{gates_start, records_start, records_size}
 use Rattle.gate_journal.specs.Batches.{batches_bytes, batches_at}
 
 -- whether a gate's batch counts: the byte 0xA5 says yes, and every other byte no

@@ -1,4 +1,4 @@
-pub mod Places
+pub mod Offsets
 pub mod Batches
 pub mod Journal
 pub mod Halves

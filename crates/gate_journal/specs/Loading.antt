@@ -3,7 +3,7 @@ use Rattle.std.specs.Prelude.{◌≡◌, ℕ, ◌+◌, ◌/◌, ◌<◌, Bool, f
 use Rattle.gate_journal.specs.declared.reading.ReadBatches.{ReadBatches}
 use Rattle.gate_journal.specs.declared.faults.LoadFault.{LoadFault}
 use Rattle.gate_journal.specs.declared.faults.LoadFault.TheVariants.{Device, NoMemory, BadJournal}
-use Rattle.gate_journal.specs.Places.{records_start}
+use Rattle.gate_journal.specs.Offsets.{records_start}
 use Rattle.gate_journal.specs.Journal.{Journal, open_gates, records_of}
 use Rattle.gate_journal.specs.Reading.{Breaks}
 

@@ -2,7 +2,7 @@
 //! leave of a half on a disk in memory.
 ghost use Rattle.std.specs.Prelude.{◌≡◌, ◌+◌, ◌*◌, ◌^◌, ◌≤◌, List, ℕ, length, IfOk, OnOk};
 ghost use Rattle.disk_model.specs.Memory.{known_of, may_leave_of};
-ghost use Rattle.gate_journal.specs.Places.{halves_end};
+ghost use Rattle.gate_journal.specs.Offsets.{halves_end};
 ghost use Rattle.gate_journal.specs.Halves.{Shows};
 
 use super::*;

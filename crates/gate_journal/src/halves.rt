@@ -1,7 +1,7 @@
 //! A journal half as it is known in memory.
 ghost use Rattle.std.specs.Prelude.{◌≡◌, ◌≤◌, ◌<◌, ◌^◌, true};
 ghost use Rattle.std.specs.List.{All};
-ghost use Rattle.gate_journal.specs.Places.{records_size};
+ghost use Rattle.gate_journal.specs.Offsets.{records_size};
 ghost use Rattle.gate_journal.specs.Batches.{Stands, range_bytes};
 
 use super::batches::{Batch, Range, Ranges};
@@ -61,7 +61,7 @@ impl Half {
     pub fn fits(&self, bytes: u32) -> bool
         ensures { result ≡ fits (journal_of self.now) bytes }
     {
-        self.has_room(u64::from(bytes))
+        self.has_space(u64::from(bytes))
     }
 
     /// Whether a batch may be appended: it fits, each of its ranges has bytes and stands in the volume, and its number is
@@ -71,13 +71,13 @@ impl Half {
         ensures follows { result ≡ true → MayFollow (size_of self.now) (journal_of self.now) batch.now }
         ensures other { fits (journal_of self.now) (length (batch_bytes batch.now)) ≡ true → MayFollow (size_of self.now) (journal_of self.now) batch.now → result ≡ true }
     {
-        self.has_room(batch.encoded_len())
+        self.has_space(batch.encoded_len())
             && may_follow(self.last, batch.number)
             && batch.stands_in(self.size)
     }
 
     /// Whether so many bytes fit, also where they are more than a number of 4 bytes tells.
-    fn has_room(&self, bytes: u64) -> bool
+    fn has_space(&self, bytes: u64) -> bool
         ensures { result ≡ fits (journal_of self.now) bytes }
     {
         self.count < GATES

@@ -1,7 +1,7 @@
 //! What no clause of loading says: that calls come through, and what the definitions mean on disks written by hand.
 ghost use Rattle.std.specs.Prelude.{◌≡◌, ◌+◌, ◌*◌, ◌^◌, ◌<◌, ◌≤◌, length, IfOk};
 ghost use Rattle.disk_model.specs.Memory.{known_of};
-ghost use Rattle.gate_journal.specs.Places.{halves_end};
+ghost use Rattle.gate_journal.specs.Offsets.{halves_end};
 
 use super::*;
 use disk_model::{CallKind, Disk, DiskFailed, FailPlan, MemDisk};

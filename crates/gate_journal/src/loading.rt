@@ -4,7 +4,7 @@ ghost use Rattle.std.specs.List.{All, list_any, position_or_len};
 ghost use Rattle.fault_counts.specs.Counts.{Rose, RisesBy, HasCause};
 ghost use Rattle.disk_model.specs.Bytes.{patched, Torn};
 ghost use Rattle.disk_model.specs.Moments.{Elapses, Follows};
-ghost use Rattle.gate_journal.specs.Places.{gates_start, records_size, halves_end};
+ghost use Rattle.gate_journal.specs.Offsets.{gates_start, records_size, halves_end};
 ghost use Rattle.gate_journal.specs.Batches.{Stands, range_bytes};
 ghost use Rattle.gate_journal.specs.Journal.{is_open, records_of, open_gates, is_open_behind, open_batches, summed};
 ghost use Rattle.gate_journal.specs.Halves.{half_of, size_of, journal_of, Shows};

@@ -1,6 +1,6 @@
 //! Where the gates and the records of a half stand on the disk, in bytes.
 ghost use Rattle.std.specs.Prelude.{◌≡◌, ◌≤◌};
-ghost use Rattle.gate_journal.specs.Places.{gates_start, records_start};
+ghost use Rattle.gate_journal.specs.Offsets.{gates_start, records_start};
 
 /// How long a block of the disk is, in bytes.
 pub const BLOCK_SIZE: u64 = 4096;

@@ -1,7 +1,7 @@
 //! Batches read from the bytes of a record area.
 ghost use Rattle.std.specs.Prelude.{◌≡◌, ◌≤◌, length, Some, None, MatchOption, MatchResult, IfOk};
 ghost use Rattle.std.specs.List.{All};
-ghost use Rattle.gate_journal.specs.Places.{records_size};
+ghost use Rattle.gate_journal.specs.Offsets.{records_size};
 ghost use Rattle.gate_journal.specs.Batches.{Stands, range_bytes, may_follow, range_at, batch_at, numbered};
 ghost use Rattle.gate_journal.specs.Reading.{TellsFilled, IsPut, IsRead, WhyUnread};
 

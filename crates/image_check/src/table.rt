@@ -13,7 +13,7 @@ use block_layout::Geometry;
 use ccfs_base::NoMemory;
 use flat_dirs::{SLOT_SIZE, Slot, Slots, decode_slot};
 use free_maps::BitMap;
-use inode_table::{Attr, Kind, decode_attr, record_place};
+use inode_table::{Attr, Kind, decode_attr, record_offset};
 use std::alloc::Global;
 
 /// Where in the volume the inode table begins, in bytes.
@@ -61,7 +61,7 @@ fn attr_at(geometry: &Geometry, volume: &[u8], inode: u32) -> Option<Attr>
     requires inode { inode < geometry.now.inodes }
     ensures { result ≡ (table_in geometry.now volume.now).attr inode }
 {
-    let place = record_place(inode) as usize;
+    let place = record_offset(inode) as usize;
     let mut record = [0; 24];
     record.copy_from_slice(&volume[place..place + 24]);
     decode_attr(&record).ok()

@@ -1,15 +1,15 @@
 -- Fields lie apart.
 use Rattle.std.proofs.Common.{◌≡◌, ◌≢◌, ℕ, ◌+◌, ◌*◌, ◌/◌, ◌%◌, ◌<◌, ◌≤◌, refl, sym, ap, subst, arith}
 use Rattle.std.proofs.Math.Path.{ap₂}
-use Rattle.inode_table.specs.Records.{record_place}
+use Rattle.inode_table.specs.Records.{record_offset}
 use Rattle.ccfs_base.specs.Places.{Place, Range, Bit, AreApart}
-use Rattle.image_model.specs.Fields.{slot_place, Field, Number, FreeBlocks, FreeInodes, Format, BlockBit, InodeBit, Kind, Length, Changes, Direct, Indirect, Slot, place, IsField}
+use Rattle.image_model.specs.Fields.{slot_offset, Field, Number, FreeBlocks, FreeInodes, Format, BlockBit, InodeBit, Kind, Length, Changes, Direct, Indirect, Slot, place, IsField}
 
 -- the records stand one behind the other, and so do the slots behind them
-pub record_line : (i : ℕ) → record_place i ≡ 12288 + 256 * i
+pub record_line : (i : ℕ) → record_offset i ≡ 12288 + 256 * i
 record_line i = omega arith
 
-pub slot_line : (n i : ℕ) → n % 32 ≡ 0 → slot_place n i ≡ 12288 + 256 * n + 128 * i
+pub slot_line : (n i : ℕ) → n % 32 ≡ 0 → slot_offset n i ≡ 12288 + 256 * n + 128 * i
 slot_line n i steps = omega arith
 
 -- the places without divisions

@@ -2,7 +2,7 @@
 use Rattle.std.proofs.Common.{◌≡◌, ◌≢◌, ◌⊎◌, ℕ, ◌+◌, ◌-◌, ◌*◌, ◌%◌, ◌<◌, ◌≤◌, ◌==◌, Bool, true, false, cond, List, [], ◌∷◌, ◌++◌, length, set, refl, sym, ap, subst, ◌∙◌, arith, inl, inr}
 use Rattle.std.proofs.lemmas.Bool.{and_parts, leb-true, eqb-true, eq-eqb, cases_Bool}
 use Rattle.block_layout.specs.Sizes.{data_start}
-use Rattle.inode_table.specs.Records.{record_place}
+use Rattle.inode_table.specs.Records.{record_offset}
 use Rattle.ccfs_base.specs.Places.{Range, put, read, write, IsValue, IsInside, AreApart}
 use Rattle.ccfs_base.proofs.AtPlaces.{length_stays, written_is_read, others_stay}
 use Rattle.image_model.specs.Fields.{Field, Number, FreeBlocks, FreeInodes, Format, BlockBit, InodeBit, Kind, Length, Changes, Direct, Indirect, Slot, place, IsField}
@@ -171,7 +171,7 @@ between : (from at i j o size x : ℕ) → from ≡ 12288 + 256 * i + 1 → at �
     → from ≤ x → x < from + 7 → at ≤ x → x < at + size → ⊥
 between from at i j o size x a b c d p q r s = omega arith
 
-pad_apart : (n i : ℕ) (g : Field) → n % 32 ≡ 0 → n ≤ 8192 → i < n → IsField n g → AreApart (Range (record_place i + 1) 7) (place n g)
+pad_apart : (n i : ℕ) (g : Field) → n % 32 ≡ 0 → n ≤ 8192 → i < n → IsField n g → AreApart (Range (record_offset i + 1) 7) (place n g)
 pad_apart n i Number steps few l u = λ x p q r s. omega (arith, record_line i)
 pad_apart n i FreeBlocks steps few l u = λ x p q r s. omega (arith, record_line i)
 pad_apart n i FreeInodes steps few l u = λ x p q r s. omega (arith, record_line i)
@@ -180,22 +180,22 @@ pad_apart n i (BlockBit item) steps few l u = λ p q. omega (arith, record_line 
 pad_apart n i (InodeBit j) steps few l u = λ p q. omega (arith, record_line i)
 pad_apart n i (Kind j) steps few l u = λ x p q r s. omega (arith, record_line i, record_line j)
 pad_apart n i (Length j) steps few l u = λ x p q r s.
-    between (record_place i + 1) (record_place j + 8) i j 8 8 x (omega (arith, record_line i)) (omega (arith, record_line j)) (omega arith) (omega arith) p q r s
+    between (record_offset i + 1) (record_offset j + 8) i j 8 8 x (omega (arith, record_line i)) (omega (arith, record_line j)) (omega arith) (omega arith) p q r s
 pad_apart n i (Changes j) steps few l u = λ x p q r s.
-    between (record_place i + 1) (record_place j + 16) i j 16 8 x (omega (arith, record_line i)) (omega (arith, record_line j)) (omega arith) (omega arith) p q r s
+    between (record_offset i + 1) (record_offset j + 16) i j 16 8 x (omega (arith, record_line i)) (omega (arith, record_line j)) (omega arith) (omega arith) p q r s
 pad_apart n i (Direct j k) steps few l u = λ x p q r s.
-    between (record_place i + 1) (record_place j + 64 + 4 * k) i j (64 + 4 * k) 4 x (omega (arith, record_line i)) (omega (arith, record_line j)) (omega arith) (omega (arith, u.1)) p q r s
+    between (record_offset i + 1) (record_offset j + 64 + 4 * k) i j (64 + 4 * k) 4 x (omega (arith, record_line i)) (omega (arith, record_line j)) (omega arith) (omega (arith, u.1)) p q r s
 pad_apart n i (Indirect j) steps few l u = λ x p q r s.
-    between (record_place i + 1) (record_place j + 160) i j 160 4 x (omega (arith, record_line i)) (omega (arith, record_line j)) (omega arith) (omega arith) p q r s
+    between (record_offset i + 1) (record_offset j + 160) i j 160 4 x (omega (arith, record_line i)) (omega (arith, record_line j)) (omega arith) (omega arith) p q r s
 pad_apart n i (Slot j) steps few l u = λ x p q r s. omega (arith, record_line i, slot_line n j steps)
 
 shows_pad : (n : ℕ) (bytes : List ℕ) (s : Fields) (i : ℕ) (new : List ℕ) → Shows n bytes s → i < n → length new ≡ 7
-    → Shows n (put bytes (record_place i + 1) new) s
+    → Shows n (put bytes (record_offset i + 1) new) s
 shows_pad n bytes s i new h l e = record {
   steps = h.steps;
   few = h.few;
-  long = omega (arith, h.long, length_stays (Range (record_place i + 1) 7) bytes new);
-  each = λ g w. others_stay (Range (record_place i + 1) 7) (place n g) bytes new (omega (arith, record_line i, h.long))
+  long = omega (arith, h.long, length_stays (Range (record_offset i + 1) 7) bytes new);
+  each = λ g w. others_stay (Range (record_offset i + 1) 7) (place n g) bytes new (omega (arith, record_line i, h.long))
       (inside n (length bytes) g h.steps h.few h.long w) e (pad_apart n i g h.steps h.few l w) ∙ h.each g w;
 }
 
@@ -208,22 +208,22 @@ put_append (x ∷ xs) ys bytes from =
 
 pub shows_record : (n : ℕ) (bytes : List ℕ) (s : Fields) (i kind : ℕ) (pad long changes : List ℕ)
     → Shows n bytes s → i < n → length pad ≡ 7 → length long ≡ 8 → length changes ≡ 8
-    → Shows n (put bytes (record_place i) (kind ∷ (pad ++ (long ++ changes)))) (with_field (with_field (with_field s (Kind i) (kind ∷ [])) (Length i) long) (Changes i) changes)
+    → Shows n (put bytes (record_offset i) (kind ∷ (pad ++ (long ++ changes)))) (with_field (with_field (with_field s (Kind i) (kind ∷ [])) (Length i) long) (Changes i) changes)
 shows_record n bytes s i kind pad long changes h l seven eight more =
-    let a : List ℕ = set bytes (record_place i) kind in
-    let b : List ℕ = put (set bytes (record_place i) kind) (record_place i + 1) pad in
-    let c : List ℕ = put (put (set bytes (record_place i) kind) (record_place i + 1) pad) (record_place i + 8) long in
+    let a : List ℕ = set bytes (record_offset i) kind in
+    let b : List ℕ = put (set bytes (record_offset i) kind) (record_offset i + 1) pad in
+    let c : List ℕ = put (put (set bytes (record_offset i) kind) (record_offset i + 1) pad) (record_offset i + 8) long in
     let first : Shows n a (with_field s (Kind i) (kind ∷ [])) = shows_write n bytes s (Kind i) (kind ∷ []) h l refl in
     let second : Shows n b (with_field s (Kind i) (kind ∷ [])) = shows_pad n a (with_field s (Kind i) (kind ∷ [])) i pad first l seven in
     let third : Shows n c (with_field (with_field s (Kind i) (kind ∷ [])) (Length i) long) =
     shows_write n b (with_field s (Kind i) (kind ∷ [])) (Length i) long second l eight in
-    let fourth : Shows n (put c (record_place i + 16) changes) (with_field (with_field (with_field s (Kind i) (kind ∷ [])) (Length i) long) (Changes i) changes) =
+    let fourth : Shows n (put c (record_offset i + 16) changes) (with_field (with_field (with_field s (Kind i) (kind ∷ [])) (Length i) long) (Changes i) changes) =
     shows_write n c (with_field (with_field s (Kind i) (kind ∷ [])) (Length i) long) (Changes i) changes third l more in
-    let at_once : put c (record_place i + 16) changes ≡ put a (record_place i + 1) (pad ++ (long ++ changes)) =
-    sym (put_append pad (long ++ changes) a (record_place i + 1)
-    ∙ ap (λ z. put b z (long ++ changes)) (eighth (record_place i) (length pad) seven)
-    ∙ put_append long changes b (record_place i + 8)
-    ∙ ap (λ z. put c z changes) (sixteenth (record_place i) (length long) eight)) in
+    let at_once : put c (record_offset i + 16) changes ≡ put a (record_offset i + 1) (pad ++ (long ++ changes)) =
+    sym (put_append pad (long ++ changes) a (record_offset i + 1)
+    ∙ ap (λ z. put b z (long ++ changes)) (eighth (record_offset i) (length pad) seven)
+    ∙ put_append long changes b (record_offset i + 8)
+    ∙ ap (λ z. put c z changes) (sixteenth (record_offset i) (length long) eight)) in
     let P : List ℕ → Type 0 = λ z. Shows n z (with_field (with_field (with_field s (Kind i) (kind ∷ [])) (Length i) long) (Changes i) changes) in
     subst P at_once fourth
   where
@@ -236,7 +236,7 @@ shows_record n bytes s i kind pad long changes h l seven eight more =
 -- ---- sizes
 
 -- a volume of sizes that an image may have has all its fields
-pub record HasRoom (v : Volume) : Type 0 where
+pub record HasSpace (v : Volume) : Type 0 where
   pub steps : v.inodes % 32 ≡ 0
   pub few : v.inodes ≤ 8192
   pub long : 12288 + 384 * v.inodes ≤ length v.bytes
@@ -244,8 +244,8 @@ pub record HasRoom (v : Volume) : Type 0 where
 room_for : (n blocks long : ℕ) → n % 32 ≡ 0 → data_start n + 64 ≤ blocks → long ≡ 4096 * (blocks - 260) → 12288 + 384 * n ≤ long
 room_for n blocks long steps room e = omega arith
 
-pub has_room : (v : Volume) → IsSized v → HasRoom v
-has_room v sized =
+pub has_space : (v : Volume) → IsSized v → HasSpace v
+has_space v sized =
     let parts = and_parts _ _ sized.inodes in
     let room : data_start v.inodes + 64 ≤ v.blocks = leb-true (data_start v.inodes + 64) v.blocks parts.1 in
     let stepped : v.inodes % 32 ≡ 0 = eqb-true (v.inodes % 32) 0 (and_parts _ _ parts.0).1 in
@@ -255,5 +255,5 @@ has_room v sized =
 
 pub shows_itself : (v : Volume) → IsSized v → Shows v.inodes v.bytes (fields_of v)
 shows_itself v sized =
-    let h : HasRoom v = has_room v sized in
+    let h : HasSpace v = has_space v sized in
     record { steps = h.steps; few = h.few; long = h.long; each = λ f u. refl }

@@ -9,7 +9,7 @@ use Rattle.byteorder.specs.Numbers.{little_number-reads_back}
 use Rattle.inode_table.specs.declared.attrs.Kind as of_kind
 use Rattle.inode_table.specs.declared.attrs.Kind.TheVariants as kinds
 use Rattle.inode_table.specs.Attrs.{kind_byte, kind_of, attr_bytes}
-use Rattle.inode_table.specs.Records.{record_place}
+use Rattle.inode_table.specs.Records.{record_offset}
 use Rattle.flat_dirs.specs.Slot.{slot_bytes, slot_in}
 use Rattle.flat_dirs.proofs.Written.{read_back}
 use Rattle.ccfs_base.specs.Names.{is_name}
@@ -19,23 +19,23 @@ use Rattle.ccfs_base.specs.declared.records.Rec.TheVariants as recs
 use Rattle.ccfs_base.specs.Records.{acts_at, raised, leaves, recorded, all_recorded}
 use Rattle.ccfs_base.proofs.AtPlaces.{length_stays}
 use Rattle.ccfs_base.proofs.Kept.{name_few}
-use Rattle.image_model.specs.Fields.{Number, FreeBlocks, FreeInodes, Format, BlockBit, InodeBit, Kind, Length, Changes, Direct, Indirect, Slot, slot_place, place, attr_told}
+use Rattle.image_model.specs.Fields.{Number, FreeBlocks, FreeInodes, Format, BlockBit, InodeBit, Kind, Length, Changes, Direct, Indirect, Slot, slot_offset, place, attr_told}
 use Rattle.image_model.specs.Volumes.{Volume, Table, table_of, free_inodes, is_used, attr, slot}
 use Rattle.image_model.specs.Changes.{Change, New, Drop, Touch, Enter, Fill, inode_of, new_attr, slot_of, marks, frees, all_records, touched, with_length, with_at, table_after}
 use Rattle.image_model.specs.ChangeLaws.{MayBe, AreSameTables, free_after, AreBesideSame, NamesAName, RecordsChangeTables, RecordsLieInside}
 use Rattle.image_model.proofs.Apart.{record_line, slot_line}
 use Rattle.image_model.proofs.Told.{fields_tell}
-use Rattle.image_model.proofs.ChangingFields.{Fields, fields_of, with_field, Shows, shows_write, shows_record, HasRoom, has_room, shows_itself}
+use Rattle.image_model.proofs.ChangingFields.{Fields, fields_of, with_field, Shows, shows_write, shows_record, HasSpace, has_space, shows_itself}
 
 -- ---- records lie inside
 
 length-slot_bytes : (parent : ℕ) (name : List ℕ) → length name ≤ 64 → length (slot_bytes (slot_of parent name)) ≡ 69
 length-slot_bytes parent name few = omega (arith, length-append name (replicate (64 - length name) 0), length-replicate {A = ℕ} (64 - length name) 0)
 
-slot_inside : (n i size long : ℕ) → n % 32 ≡ 0 → 12288 + 384 * n ≤ size → i < n → long ≡ 69 → slot_place n i + long ≤ size
+slot_inside : (n i size long : ℕ) → n % 32 ≡ 0 → 12288 + 384 * n ≤ size → i < n → long ≡ 69 → slot_offset n i + long ≤ size
 slot_inside n i size long steps room l e = omega (arith, slot_line n i steps)
 
-record_inside : (n i size from to : ℕ) → 12288 + 384 * n ≤ size → i < n → from + to ≤ 256 → record_place i + from + to ≤ size
+record_inside : (n i size from to : ℕ) → 12288 + 384 * n ≤ size → i < n → from + to ≤ 256 → record_offset i + from + to ≤ size
 record_inside n i size from to room l e = omega (arith, record_line i)
 
 bit_inside : (n i size : ℕ) → n ≤ 8192 → 12288 + 384 * n ≤ size → i < n → (8192 + i / 8 < size) × (i % 8 < 8)
@@ -43,7 +43,7 @@ bit_inside n i size few room l = (omega arith, omega arith)
 
 pub records_lie_inside : RecordsLieInside
 records_lie_inside v (New inode parent name kind) sized l named =
-    let h : HasRoom v = has_room v sized in
+    let h : HasSpace v = has_space v sized in
     let size : ℕ = length v.bytes in (
       omega (arith, record_inside v.inodes inode size 0 24 h.long l (omega arith)),
       (
@@ -52,31 +52,31 @@ records_lie_inside v (New inode parent name kind) sized l named =
       ),
     )
 records_lie_inside v (Drop inode) sized l named =
-    let h : HasRoom v = has_room v sized in
+    let h : HasSpace v = has_space v sized in
     (bit_inside v.inodes inode (length v.bytes) h.few h.long l, (omega (arith, h.long), tt))
 records_lie_inside v (Touch inode) sized l named =
-    let h : HasRoom v = has_room v sized in
+    let h : HasSpace v = has_space v sized in
     (record_inside v.inodes inode (length v.bytes) 16 8 h.long l (omega arith), tt)
 records_lie_inside v (Enter inode parent name) sized l named =
-    let h : HasRoom v = has_room v sized in
+    let h : HasSpace v = has_space v sized in
     (slot_inside v.inodes inode (length v.bytes) (length (slot_bytes (slot_of parent name))) h.steps h.long l (length-slot_bytes parent name (name_few name named)), tt)
 records_lie_inside v (Fill inode bytes) sized l named =
-    let h : HasRoom v = has_room v sized in
+    let h : HasSpace v = has_space v sized in
     (record_inside v.inodes inode (length v.bytes) 8 8 h.long l (omega arith), tt)
 
 -- ---- what each record leaves in the fields
 
 shows_slot : (n : ℕ) (bytes : List ℕ) (s : Fields) (i parent : ℕ) (name : List ℕ) → Shows n bytes s → i < n → length name ≤ 64
-    → Shows n (recorded bytes (recs.Range (slot_place n i) (slot_bytes (slot_of parent name)))) (with_field s (Slot i) (slot_bytes (slot_of parent name)))
+    → Shows n (recorded bytes (recs.Range (slot_offset n i) (slot_bytes (slot_of parent name)))) (with_field s (Slot i) (slot_bytes (slot_of parent name)))
 shows_slot n bytes s i parent name h l few = shows_write n bytes s (Slot i) (slot_bytes (slot_of parent name)) h l (length-slot_bytes parent name few)
 
 shows_attr : (n : ℕ) (bytes : List ℕ) (s : Fields) (i : ℕ) (kind : of_kind.Kind) → Shows n bytes s → i < n
-    → Shows n (recorded bytes (recs.Range (record_place i) (attr_bytes (new_attr kind))))
+    → Shows n (recorded bytes (recs.Range (record_offset i) (attr_bytes (new_attr kind))))
     (with_field (with_field (with_field s (Kind i) (kind_byte kind ∷ [])) (Length i) (little_bytes 8 0)) (Changes i) (little_bytes 8 0))
 shows_attr n bytes s i kind h l = shows_record n bytes s i (kind_byte kind) (replicate 7 0) (little_bytes 8 0) (little_bytes 8 0) h l refl refl refl
 
 shows_length : (n : ℕ) (bytes : List ℕ) (s : Fields) (i long : ℕ) → Shows n bytes s → i < n
-    → Shows n (recorded bytes (recs.Range (record_place i + 8) (little_bytes 8 long))) (with_field s (Length i) (little_bytes 8 long))
+    → Shows n (recorded bytes (recs.Range (record_offset i + 8) (little_bytes 8 long))) (with_field s (Length i) (little_bytes 8 long))
 shows_length n bytes s i long h l = shows_write n bytes s (Length i) (little_bytes 8 long) h l refl
 
 shows_mark : (n : ℕ) (bytes : List ℕ) (s : Fields) (i : ℕ) (on : Bool) → Shows n bytes s → i < n
@@ -91,7 +91,7 @@ shows_count n bytes s by h =
     subst P (sym (h.each FreeInodes tt)) (shows_write n bytes s FreeInodes (raised (s FreeInodes) by) h tt refl)
 
 shows_touch : (n : ℕ) (bytes : List ℕ) (s : Fields) (i : ℕ) → Shows n bytes s → i < n
-    → Shows n (recorded bytes (recs.Add (record_place i + 16) 1)) (with_field s (Changes i) (raised (s (Changes i)) 1))
+    → Shows n (recorded bytes (recs.Add (record_offset i + 16) 1)) (with_field s (Changes i) (raised (s (Changes i)) 1))
 shows_touch n bytes s i h l =
     let P : List ℕ → Type 0 = λ old. Shows n (write (place n (Changes i)) bytes (raised old 1)) (with_field s (Changes i) (raised (s (Changes i)) 1)) in
     subst P (sym (h.each (Changes i) l)) (shows_write n bytes s (Changes i) (raised (s (Changes i)) 1) h l refl)
@@ -124,8 +124,8 @@ shows_marked n bytes s i on by h l =
 shows_change : (n : ℕ) (bytes : List ℕ) (s : Fields) (c : Change) → Shows n bytes s → inode_of c < n → NamesAName c
     → Shows n (all_recorded bytes (all_records n (c ∷ []))) (fields_after s c)
 shows_change n bytes s (New inode parent name kind) h l named =
-    let a : List ℕ = recorded bytes (recs.Range (record_place inode) (attr_bytes (new_attr kind))) in
-    let b : List ℕ = recorded a (recs.Range (slot_place n inode) (slot_bytes (slot_of parent name))) in
+    let a : List ℕ = recorded bytes (recs.Range (record_offset inode) (attr_bytes (new_attr kind))) in
+    let b : List ℕ = recorded a (recs.Range (slot_offset n inode) (slot_bytes (slot_of parent name))) in
     let t : Fields = with_field (with_field (with_field s (Kind inode) (kind_byte kind ∷ [])) (Length inode) (little_bytes 8 0)) (Changes inode) (little_bytes 8 0) in
     shows_marked n b (with_new s inode parent name kind) inode true (2 ^ 64 - 1)
     (shows_slot n a t inode parent name (shows_attr n bytes s inode kind h l) l (name_few name named)) l

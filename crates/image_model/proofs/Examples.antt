@@ -6,7 +6,7 @@ use Rattle.inode_table.specs.declared.attrs.Attr.{Attr}
 use Rattle.inode_table.specs.declared.attrs.Kind.TheVariants as kinds
 use Rattle.flat_dirs.specs.declared.slot.Slot.{Slot}
 use Rattle.tree_model.specs.declared.rows.Body.TheVariants.{Dir, File}
-use Rattle.image_model.specs.Fields.{block_place, slot_block, slot_place, direct_place}
+use Rattle.image_model.specs.Fields.{block_place, slot_block, slot_offset, direct_place}
 use Rattle.image_model.specs.Volumes.{Volume, Table, number, free_blocks, format, first_data, data_blocks}
 use Rattle.image_model.specs.declared.pointer.Pointer.TheVariants.{Page, ToIndirect}
 use Rattle.image_model.specs.Files.{file_pointers, pointers}
@@ -23,7 +23,7 @@ second_block = refl
 a_slots_block : slot_block 64 33 ≡ 268
 a_slots_block = refl
 
-a_slots_place : slot_place 64 33 ≡ 32896
+a_slots_place : slot_offset 64 33 ≡ 32896
 a_slots_place = refl
 
 a_pointers_place : direct_place 0 2 ≡ 12288 + 72

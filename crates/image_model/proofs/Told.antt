@@ -7,7 +7,7 @@ use Rattle.std.proofs.lemmas.List.{get_or-drop}
 use Rattle.byteorder.specs.Endian.{little_number}
 use Rattle.byteorder.specs.Numbers.{little_from-take}
 use Rattle.inode_table.specs.Attrs.{kind_of}
-use Rattle.inode_table.specs.Records.{record_place}
+use Rattle.inode_table.specs.Records.{record_offset}
 use Rattle.free_maps.specs.Bits.{has_bit}
 use Rattle.free_maps.specs.Maps.{is_set}
 use Rattle.ccfs_base.specs.Places.{part}
@@ -44,11 +44,11 @@ fields_tell v = record {
   the_format = in_part 4 24 v.bytes;
   blocks = λ item h. ap (λ b. has_bit b (item % 8)) (get_or-part 4096 4096 v.bytes (item / 8) 0 (omega arith));
   inodes = λ inode h. ap (λ b. has_bit b (inode % 8)) (get_or-part 8192 4096 v.bytes (inode / 8) 0 (omega arith));
-  attrs = λ inode. attr_in (record_place inode) v.bytes;
+  attrs = λ inode. attr_in (record_offset inode) v.bytes;
   slots = λ inode. refl;
   pages = λ inode page h. ap (λ b. cond b (number_at 4 (direct_place inode page) v) (number_at 4 (block_place (indirect v inode) + 4 * (page - 24)) v)) (lt-ltb page 24 h)
       ∙ in_part 4 (direct_place inode page) v.bytes;
-  indirects = λ inode. in_part 4 (record_place inode + 160) v.bytes;
+  indirects = λ inode. in_part 4 (record_offset inode + 160) v.bytes;
 }
 
 -- a bit of a block, read in the byte that has it

@@ -10,7 +10,7 @@ use Rattle.inode_table.specs.declared.attrs.Attr.{Attr}
 use Rattle.inode_table.specs.declared.attrs.Kind.{Kind}
 use Rattle.inode_table.specs.declared.attrs.Kind.TheVariants as kinds
 use Rattle.inode_table.specs.Attrs.{attr_bytes}
-use Rattle.inode_table.specs.Records.{record_place}
+use Rattle.inode_table.specs.Records.{record_offset}
 use Rattle.flat_dirs.specs.declared.slot.Slot.{Slot}
 use Rattle.flat_dirs.specs.Slot.{slot_bytes}
 use Rattle.tree_model.specs.declared.rows.Body.{Body}
@@ -20,7 +20,7 @@ use Rattle.tree_model.specs.declared.rows.Update.{Update}
 use Rattle.tree_model.specs.declared.rows.Update.TheVariants.{Make, Write, Resize, Remove, Move, Release}
 use Rattle.tree_model.specs.Rows.{Rows}
 use Rattle.std.specs.FinMap.{get}
-use Rattle.image_model.specs.Fields.{block_place, inode_bits, slot_place}
+use Rattle.image_model.specs.Fields.{block_place, inode_bits, slot_offset}
 use Rattle.image_model.specs.Volumes.{Volume, Table}
 use Rattle.image_model.specs.Carrying.{inode_in}
 
@@ -67,13 +67,13 @@ frees by = recs.Add 16 by
 -- bit and on the count of free inodes
 abbrev pub records_of : ℕ → Change → List Rec
 records_of inodes (New inode parent name kind) =
-    recs.Range (record_place inode) (attr_bytes (new_attr kind))
-    ∷ recs.Range (slot_place inodes inode) (slot_bytes (slot_of parent name))
+    recs.Range (record_offset inode) (attr_bytes (new_attr kind))
+    ∷ recs.Range (slot_offset inodes inode) (slot_bytes (slot_of parent name))
     ∷ marks inode true ∷ frees (2 ^ 64 - 1) ∷ []
 records_of inodes (Drop inode) = marks inode false ∷ frees 1 ∷ []
-records_of inodes (Touch inode) = recs.Add (record_place inode + 16) 1 ∷ []
-records_of inodes (Enter inode parent name) = recs.Range (slot_place inodes inode) (slot_bytes (slot_of parent name)) ∷ []
-records_of inodes (Fill inode bytes) = recs.Range (record_place inode + 8) (little_bytes 8 (length bytes)) ∷ []
+records_of inodes (Touch inode) = recs.Add (record_offset inode + 16) 1 ∷ []
+records_of inodes (Enter inode parent name) = recs.Range (slot_offset inodes inode) (slot_bytes (slot_of parent name)) ∷ []
+records_of inodes (Fill inode bytes) = recs.Range (record_offset inode + 8) (little_bytes 8 (length bytes)) ∷ []
 
 -- the records of changes, in their order
 abbrev pub all_records : ℕ → List Change → List Rec

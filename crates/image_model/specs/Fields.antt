@@ -4,7 +4,7 @@ use Rattle.byteorder.specs.Endian.{little_number}
 use Rattle.block_layout.specs.Sizes.{block_size, volume_start, slot_table_start}
 use Rattle.inode_table.specs.declared.attrs.Attr.{Attr}
 use Rattle.inode_table.specs.Attrs.{kind_of}
-use Rattle.inode_table.specs.Records.{record_place}
+use Rattle.inode_table.specs.Records.{record_offset}
 use Rattle.ccfs_base.specs.Places.{Place, Range, Bit}
 
 -- ---- places
@@ -39,8 +39,8 @@ abbrev pub slot_block : ℕ → ℕ → ℕ
 slot_block inodes inode = slot_table_start inodes + inode / slots_per_block
 
 -- where that slot begins: of 64 inodes that of inode 33 at byte 128 of block 268, which is the byte 32,896
-abbrev pub slot_place : ℕ → ℕ → ℕ
-slot_place inodes inode = block_place (slot_block inodes inode) + slot_stride * (inode % slots_per_block)
+abbrev pub slot_offset : ℕ → ℕ → ℕ
+slot_offset inodes inode = block_place (slot_block inodes inode) + slot_stride * (inode % slots_per_block)
 
 -- how many pages a record has pointers for
 abbrev pub direct_pages : ℕ
@@ -48,11 +48,11 @@ direct_pages = 24
 
 -- where the pointer of one of these pages stands: of page 2 of inode 0 at byte 72 of its record
 abbrev pub direct_place : ℕ → ℕ → ℕ
-direct_place inode page = record_place inode + 64 + 4 * page
+direct_place inode page = record_offset inode + 64 + 4 * page
 
 -- where the pointer to the indirect block stands
 abbrev pub indirect_place : ℕ → ℕ
-indirect_place inode = record_place inode + 160
+indirect_place inode = record_offset inode + 160
 
 -- ---- fields
 
@@ -80,12 +80,12 @@ place inodes FreeInodes = Range 16 8
 place inodes Format = Range 24 4
 place inodes (BlockBit item) = Bit (block_place block_bits + item / 8) (item % 8)
 place inodes (InodeBit inode) = Bit (block_place inode_bits + inode / 8) (inode % 8)
-place inodes (Kind inode) = Range (record_place inode) 1
-place inodes (Length inode) = Range (record_place inode + 8) 8
-place inodes (Changes inode) = Range (record_place inode + 16) 8
+place inodes (Kind inode) = Range (record_offset inode) 1
+place inodes (Length inode) = Range (record_offset inode + 8) 8
+place inodes (Changes inode) = Range (record_offset inode + 16) 8
 place inodes (Direct inode page) = Range (direct_place inode page) 4
 place inodes (Indirect inode) = Range (indirect_place inode) 4
-place inodes (Slot inode) = Range (slot_place inodes inode) slot_size
+place inodes (Slot inode) = Range (slot_offset inodes inode) slot_size
 
 -- a volume of so many inodes has the field. A block of bits has 32,768 of them
 abbrev pub IsField : ℕ → Field → Type 0

@@ -2,7 +2,7 @@
 use Rattle.std.specs.Prelude.{◌≡◌, ℕ, ◌-◌, ◌<◌, cond, ◌||◌, ◌==◌, nat_lt, List, ◌++◌, slice_index}
 use Rattle.byteorder.specs.Endian.{little_bytes}
 use Rattle.block_layout.specs.Sizes.{data_start}
-use Rattle.inode_table.specs.Records.{record_place}
+use Rattle.inode_table.specs.Records.{record_offset}
 use Rattle.image_model.specs.Fields.{block_place, inode_bits}
 use Rattle.image_model.specs.Volumes.{Volume, first_data}
 
@@ -18,7 +18,7 @@ abbrev pub fresh_byte : ℕ → ℕ → ℕ → ℕ
 fresh_byte blocks inodes x =
     cond (nat_lt x 28)
     (slice_index (fresh_counters blocks inodes) x)
-    (cond (x == block_place inode_bits) 3 (cond (x == record_place 0 || x == record_place 1) 1 0))
+    (cond (x == block_place inode_bits) 3 (cond (x == record_offset 0 || x == record_offset 1) 1 0))
 
 -- A volume with that metadata. Its data blocks may hold anything.
 pub record IsFresh (v : Volume) : Type 0 where

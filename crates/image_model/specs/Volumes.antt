@@ -5,12 +5,12 @@ use Rattle.block_layout.specs.declared.geometry.Geometry.{Geometry}
 use Rattle.block_layout.specs.Sizes.{block_size, data_start}
 use Rattle.inode_table.specs.declared.attrs.Attr.{Attr}
 use Rattle.inode_table.specs.Attrs.{attr_of}
-use Rattle.inode_table.specs.Records.{record_place}
+use Rattle.inode_table.specs.Records.{record_offset}
 use Rattle.free_maps.specs.Maps.{is_set, clear_below}
 use Rattle.flat_dirs.specs.declared.slot.Slot.{Slot}
 use Rattle.flat_dirs.specs.Slot.{slot_in}
 use Rattle.ccfs_base.specs.Places.{part}
-use Rattle.image_model.specs.Fields.{block_place, block_bits, inode_bits, slot_place, slot_size}
+use Rattle.image_model.specs.Fields.{block_place, block_bits, inode_bits, slot_offset, slot_size}
 
 -- The bytes of a volume, and how many blocks and inodes its image has. Blocks go by their numbers in the image.
 pub record Volume : Type 0 where
@@ -88,10 +88,10 @@ abbrev pub clear_inodes : Volume → ℕ
 clear_inodes v = clear_below (block_bytes v inode_bits) v.inodes
 
 abbrev pub attr : Volume → ℕ → Option Attr
-attr v inode = attr_of (part (record_place inode) 24 v.bytes)
+attr v inode = attr_of (part (record_offset inode) 24 v.bytes)
 
 abbrev pub slot : Volume → ℕ → Option Slot
-slot v inode = slot_in (part (slot_place v.inodes inode) slot_size v.bytes)
+slot v inode = slot_in (part (slot_offset v.inodes inode) slot_size v.bytes)
 
 -- the table of a volume
 abbrev pub table_of : Volume → Table

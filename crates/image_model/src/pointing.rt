@@ -13,7 +13,7 @@ use super::pointer::Pointer;
 use super::reading::{attr_at, is_file_at, word_at};
 use block_layout::{BLOCK_SIZE, Geometry, VOLUME_START};
 use ccfs_base::NoMemory;
-use inode_table::{record_block, record_place};
+use inode_table::{record_block, record_offset};
 use std::alloc::Global;
 
 /// How many pages have their pointers in the record.
@@ -93,7 +93,7 @@ pub(crate) fn pointers(
 fn indirect(bytes: &[u8], inode: u32) -> u32
     ensures { result ≡ little_number 4 (drop (indirect_place inode) bytes.now) }
 {
-    word_at(bytes, u128::from(record_place(inode)) + INDIRECT_AT)
+    word_at(bytes, u128::from(record_offset(inode)) + INDIRECT_AT)
 }
 
 /// Where a block of the image begins in the volume.
@@ -111,7 +111,7 @@ pub(crate) fn named(geometry: &Geometry, bytes: &[u8], pointer: Pointer) -> u32
         Pointer::Page { inode, page } if page < DIRECT => {
             word_at(
                 bytes,
-                u128::from(record_place(inode)) + DIRECT_AT + 4 * u128::from(page),
+                u128::from(record_offset(inode)) + DIRECT_AT + 4 * u128::from(page),
             )
         }
         Pointer::Page { inode, page } => {

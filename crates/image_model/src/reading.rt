@@ -12,7 +12,7 @@ ghost use Rattle.image_model.specs.Reading.{IsWhole, table_in};
 use block_layout::Geometry;
 use byteorder::{ByteOrder, LittleEndian};
 use flat_dirs::{SLOT_SIZE, Slot, decode_slot};
-use inode_table::{Attr, Kind, decode_attr, record_place};
+use inode_table::{Attr, Kind, decode_attr, record_offset};
 
 /// Where the block of the bits of inodes begins.
 const INODE_BITS: u32 = 8192;
@@ -83,7 +83,7 @@ pub(crate) fn attr_at(geometry: &Geometry, bytes: &[u8], inode: u32) -> Option<A
     requires inode { inode < geometry.now.inodes }
     ensures { result ≡ (table_in geometry.now bytes.now).attr inode }
 {
-    let place = record_place(inode) as usize;
+    let place = record_offset(inode) as usize;
     let mut record = [0; 24];
     record.copy_from_slice(&bytes[place..place + 24]);
     match decode_attr(&record) {

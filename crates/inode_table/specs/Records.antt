@@ -16,5 +16,5 @@ record_block inode = inode_table_start + inode / records_per_block
 
 -- where in the volume the record of an inode begins, in bytes: of inode 17 it is byte 256 of block 264, which is the
 -- byte 16,640 of the volume
-abbrev pub record_place : ℕ → ℕ
-record_place inode = block_size * (record_block inode - volume_start) + record_size * (inode % records_per_block)
+abbrev pub record_offset : ℕ → ℕ
+record_offset inode = block_size * (record_block inode - volume_start) + record_size * (inode % records_per_block)

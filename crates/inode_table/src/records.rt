@@ -1,6 +1,6 @@
 //! Where the records of inodes stand.
 ghost use Rattle.std.specs.Prelude.{◌≡◌};
-ghost use Rattle.inode_table.specs.Records.{record_block, record_place};
+ghost use Rattle.inode_table.specs.Records.{record_block, record_offset};
 
 use block_layout::{BLOCK_SIZE, VOLUME_START};
 
@@ -18,8 +18,8 @@ pub fn record_block(inode: u32) -> u32
 }
 
 /// Where in the volume the record of an inode begins, in bytes from the volume's start.
-pub fn record_place(inode: u32) -> u64
-    ensures { result ≡ record_place inode }
+pub fn record_offset(inode: u32) -> u64
+    ensures { result ≡ record_offset inode }
 {
     u64::from(BLOCKS_BEFORE) * u64::from(BLOCK_SIZE) + u64::from(RECORD_SIZE) * u64::from(inode)
 }

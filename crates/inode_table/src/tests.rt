@@ -75,7 +75,7 @@ fn sixteen_records_stand_in_a_block(rt: HostRuntime) {
         (8191, 774, 2_109_184),
     ] {
         assert_eq!(rt; record_block(inode), block);
-        assert_eq!(rt; record_place(inode), place);
+        assert_eq!(rt; record_offset(inode), place);
     }
-    assert_eq!(rt; record_place(u32::MAX), 1_099_511_639_808);
+    assert_eq!(rt; record_offset(u32::MAX), 1_099_511_639_808);
 }

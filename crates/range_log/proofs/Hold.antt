@@ -5,7 +5,7 @@ use Rattle.std.specs.List.{list_all}
 use Rattle.ccfs_base.specs.declared.records.Rec.{Rec}
 use Rattle.ccfs_base.specs.declared.records.Rec.TheVariants as recs
 use Rattle.ccfs_base.specs.Logs.{IsLogged, IsTaken, AreSame}
-use Rattle.record_logs.specs.Kept.{Kept, log_of, logs_of, call_by}
+use Rattle.record_logs.specs.Kept.{LogLists, log_of, logs_of, call_by}
 use Rattle.range_log.specs.Ranges.{range_call, is_clear_of, is_range, is_apart_from, IsHeld}
 use Rattle.range_log.proofs.Apart.{ranges_put, ranges_taken, apart_put, apart_taken}
 
@@ -49,7 +49,7 @@ held_pushed (Ok x) old new stream off bytes rec below clear is put same h =
 held_pushed (Err e) old new stream off bytes rec below clear is put same h = held_same old new same h
 
 -- the same logs and the same room are the same logs
-pub same_logs : {T E : Type 0} (result : Result T E) (old new : Kept) → OnErr result (AreSame (logs_of old) (logs_of new))
+pub same_logs : {T E : Type 0} (result : Result T E) (old new : LogLists) → OnErr result (AreSame (logs_of old) (logs_of new))
     → OnErr result ((s : ℕ) → log_of new s ≡ log_of old s)
 same_logs (Ok x) old new h = tt
 same_logs (Err e) old new h = h.0

@@ -21,10 +21,10 @@ pub struct RangeLog {
 }
 
 impl Model for RangeLog {
-    ghost use Rattle.record_logs.specs.Kept.{Kept, log_of};
+    ghost use Rattle.record_logs.specs.Kept.{LogLists, log_of};
     ghost use Rattle.range_log.specs.Ranges.{IsHeld};
 
-    ghost Value = { Kept };
+    ghost Value = { LogLists };
 
     ghost view = { λ a. a.logs };
 

@@ -7,7 +7,7 @@ use Rattle.ccfs_base.specs.declared.records.Rec.{Rec}
 use Rattle.ccfs_base.specs.Rooms.{IsFirst}
 use Rattle.ccfs_base.specs.Logs.{Call, IsLogged, IsCalled, IsTaken}
 use Rattle.record_logs.specs.declared.logs.RoomCall.{RoomCall}
-use Rattle.record_logs.specs.Kept.{call_by, Kept, logs_of}
+use Rattle.record_logs.specs.Kept.{call_by, LogLists, logs_of}
 use Rattle.record_logs.specs.Held.{list_at, number_at, with_last, NoneFell, calls_of, kept_in, IsServed, AreServed}
 
 -- ---- the room
@@ -26,11 +26,11 @@ used_room [] rest call l e f = absurd (omega arith)
 used_room (first ∷ more) rest call l e f = ap (λ z. z ∷ more) (sym f) ∙ ap (λ z. call ∷ z) (sym e)
 
 -- the room before its first call was taken out of it, and that this call and the others are served
-pub first_out : (logs : List (List Rec)) (spaces : List ℕ) (room rest : List RoomCall) (call : RoomCall) (was : Kept) → kept_in logs room ≡ was
+pub first_out : (logs : List (List Rec)) (spaces : List ℕ) (room rest : List RoomCall) (call : RoomCall) (was : LogLists) → kept_in logs room ≡ was
     → 0 < length was.room → rest ≡ drop 1 room → call ≡ get_or room 0 call → AreServed logs spaces 0 room
     → (room ≡ call ∷ rest) × AreServed logs spaces 0 (call ∷ rest)
 first_out logs spaces room rest call was e some f g h =
-    let all : room ≡ call ∷ rest = used_room room rest call (omega (arith, ap (λ (z : Kept). length z.room) e, length-calls room)) f g in
+    let all : room ≡ call ∷ rest = used_room room rest call (omega (arith, ap (λ (z : LogLists). length z.room) e, length-calls room)) f g in
     (all, subst (λ z. AreServed logs spaces 0 z) all h)
 
 -- ---- calls that stay served
@@ -147,11 +147,11 @@ called old new used rest l is call first =
     })
 
 -- the first call of what was held was made
-pub called_from : (old new : List (List Rec)) (room rest : List RoomCall) (used : RoomCall) (was : Kept) → kept_in old room ≡ was → room ≡ used ∷ rest
+pub called_from : (old new : List (List Rec)) (room rest : List RoomCall) (used : RoomCall) (was : LogLists) → kept_in old room ≡ was → room ≡ used ∷ rest
     → used.stream < length old → new ≡ with_last old used.stream used.rec
     → (call : Call) → IsFirst call was.room → IsCalled (logs_of was) call (logs_of (kept_in new rest))
 called_from old new room rest used was e f l is call =
-    subst (λ (z : Kept). IsFirst call z.room → IsCalled (logs_of z) call (logs_of (kept_in new rest)))
+    subst (λ (z : LogLists). IsFirst call z.room → IsCalled (logs_of z) call (logs_of (kept_in new rest)))
     (ap (λ z. kept_in old z) (sym f) ∙ e) (called old new used rest l is call)
 
 -- the first call of a list of calls
@@ -162,7 +162,7 @@ first_of_list (first ∷ rest) call e =
     (calls_of rest, ap (λ (z : RoomCall). call_by z.stream z.rec ∷ calls_of rest) same)
 
 -- the first call of the room, as the code sees the room
-pub first_seen : (old : List (List Rec)) (room seen : List RoomCall) (call : RoomCall) (was : Kept) → kept_in old room ≡ was → seen ≡ room
+pub first_seen : (old : List (List Rec)) (room seen : List RoomCall) (call : RoomCall) (was : LogLists) → kept_in old room ≡ was → seen ≡ room
     → Some call ≡ slice_get seen 0 → IsFirst (call_by call.stream call.rec) was.room
 first_seen old room seen call was e f g =
-    subst (λ (z : Kept). IsFirst (call_by call.stream call.rec) z.room) e (first_of_list room call (g ∙ ap (λ z. slice_get z 0) f))
+    subst (λ (z : LogLists). IsFirst (call_by call.stream call.rec) z.room) e (first_of_list room call (g ∙ ap (λ z. slice_get z 0) f))

@@ -3,7 +3,7 @@ use Rattle.std.specs.Prelude.{◌≡◌, ℕ, ◌+◌, ◌<◌, ◌≤◌, max, 
 use Rattle.ccfs_base.specs.declared.records.Rec.{Rec}
 use Rattle.ccfs_base.specs.Logs.{Call}
 use Rattle.record_logs.specs.declared.logs.RoomCall.{RoomCall}
-use Rattle.record_logs.specs.Kept.{Kept, call_by}
+use Rattle.record_logs.specs.Kept.{LogLists, call_by}
 
 -- the records of each stream, without the memory that they lie in
 abbrev pub recs_of : {Z : Type 0} → List (Vec Rec Z) → List (List Rec)
@@ -34,7 +34,7 @@ abbrev pub calls_of : List RoomCall → List Call
 calls_of room = map (λ call. call_by call.stream call.rec) room
 
 -- what is held, as a contract sees it
-abbrev pub kept_in : List (List Rec) → List RoomCall → Kept
+abbrev pub kept_in : List (List Rec) → List RoomCall → LogLists
 kept_in logs room = record { logs = logs; room = calls_of room }
 
 -- A call of the room with so many calls before it needs no memory. Its own list is empty and has places for it and for the

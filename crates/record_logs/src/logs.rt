@@ -34,10 +34,10 @@ pub struct RecordLogs {
 }
 
 impl Model for RecordLogs {
-    ghost use Rattle.record_logs.specs.Kept.{Kept};
+    ghost use Rattle.record_logs.specs.Kept.{LogLists};
     ghost use Rattle.record_logs.specs.Held.{recs_of, places_of, kept_in, AreServed};
 
-    ghost Value = { Kept };
+    ghost Value = { LogLists };
 
     ghost view = { λ a. kept_in (recs_of a.logs) a.room.items };
 

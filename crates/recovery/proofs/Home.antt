@@ -5,7 +5,7 @@ use Rattle.disk_model.specs.declared.disk.Disk.{Ghosts}
 use Rattle.disk_model.proofs.Runs.{elapses_join, each_join}
 use Rattle.tree_model.specs.Rows.{Rows}
 use Rattle.gate_journal.specs.declared.halves.Half.{Half}
-use Rattle.gate_journal.specs.Places.{records_size}
+use Rattle.gate_journal.specs.Offsets.{records_size}
 use Rattle.gate_journal.specs.Batches.{range_bytes}
 use Rattle.gate_journal.specs.Halves.{journal_of}
 use Rattle.gate_journal.specs.Runs.{LeavesBy, Quiet}

@@ -12,7 +12,7 @@ use super::fault::MakeFault;
 use block_layout::{BLOCK_SIZE, Geometry, VOLUME_START, encode_super, written_is_read};
 use byteorder::{ByteOrder, LittleEndian};
 use disk_model::{Disk, DiskFailed};
-use inode_table::{Attr, Kind, encode_attr, record_place};
+use inode_table::{Attr, Kind, encode_attr, record_offset};
 use std::alloc::{AllocError, Global};
 
 /// The blocks before the record areas: the superblock, the master byte and the gates of both halves.
@@ -28,7 +28,7 @@ const INODE_BITS: usize = 2 * BLOCK_SIZE as usize;
 const FIXED_INODES: u8 = 3;
 
 /// So many bytes that begin with the superblock of these sizes. The rest is zeros.
-fn front_of(alloc: Global, geometry: &Geometry, size: usize) -> Result<Vec<u8>, AllocError>
+fn prefix_of(alloc: Global, geometry: &Geometry, size: usize) -> Result<Vec<u8>, AllocError>
     requires { 36 ≤ size }
     ensures { IfOk result (λ front. front.items ≡ front_bytes geometry.now size) }
 {
@@ -69,8 +69,8 @@ fn put_tables(tables: &mut [u8], geometry: &Geometry)
         length: 0,
         changes: 0,
     });
-    put(tables, record_place(0) as usize, &fixed);
-    put(tables, record_place(1) as usize, &fixed);
+    put(tables, record_offset(0) as usize, &fixed);
+    put(tables, record_offset(1) as usize, &fixed);
 }
 
 /// The blocks of a fresh volume before its data blocks: counters, bitmaps, inode table and slot table.
@@ -114,7 +114,7 @@ pub fn make<D: Disk>(alloc: Global, disk: &mut D, geometry: &Geometry) -> Result
     ensures steady { (IsErrOf result Device → ⊥) → D.faults disk.new ≡ D.faults disk.old }
     ensures count { RisesBy (block_size * (4 + geometry.now.first_data - volume_start)) (D.written disk.old) (D.written disk.new) }
 {
-    let front = front_of(alloc, geometry, (FRONT_BLOCKS * BLOCK_SIZE) as usize)?;
+    let front = prefix_of(alloc, geometry, (FRONT_BLOCKS * BLOCK_SIZE) as usize)?;
     let tables = fresh_tables(alloc, geometry)?;
     // The law does nothing. It says that the superblock is right, and that it names these sizes.
     written_is_read(geometry);

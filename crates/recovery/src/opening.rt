@@ -1,7 +1,7 @@
 //! Images that are opened for commits.
 ghost use Rattle.std.specs.Prelude.{◌≡◌, ◌⊎◌, ◌+◌, ◌≤◌, false, List, ℕ, Some, None, IfOk, IfErr, MatchResult};
 ghost use Rattle.fault_counts.specs.Counts.{Rose, RisesBy};
-ghost use Rattle.gate_journal.specs.Places.{records_size};
+ghost use Rattle.gate_journal.specs.Offsets.{records_size};
 ghost use Rattle.gate_journal.specs.Halves.{journal_of};
 ghost use Rattle.gate_journal.specs.Loading.{empty};
 ghost use Rattle.gate_journal.specs.Runs.{Quiet};

@@ -21,7 +21,7 @@ pub record Area : Type 0 where
   pub room : List Call
 
 -- The same with a list in place of each function of the streams, stream 0 first. The streams past the last have nothing.
-pub record Kept : Type 0 where
+pub record AreaLists : Type 0 where
   pub base : List ℕ
   pub ranges : List (List Rec)
   pub deltas : List (List Rec)
@@ -29,7 +29,7 @@ pub record Kept : Type 0 where
   pub room : List Call
 
 -- the area that is kept so: with the ranges [[a], [b, c]] stream 1 has put b and c, and stream 2 nothing
-abbrev pub area : Kept → Area
+abbrev pub area : AreaLists → Area
 area kept = record {
   base = kept.base;
   ranges = λ stream. slice_index_or kept.ranges stream [];

@@ -1,7 +1,7 @@
 -- What the memory of a metadata area holds.
 use Rattle.std.specs.Prelude.{◌≡◌, ℕ, ◌≤◌, List, [], length, map, Option, None, Some, is_some, slice_index_or, Vec, vec_items, vec_len, vec_capacity}
 use Rattle.ccfs_base.specs.declared.records.Rec.{Rec}
-use Rattle.shared_meta.specs.Area.{Area, Kept, log_of, standing, IsShared}
+use Rattle.shared_meta.specs.Area.{Area, AreaLists, log_of, standing, IsShared}
 use Rattle.shared_meta.specs.Merged.{Both}
 
 -- a place has memory for so many records, and none of them yet
@@ -25,7 +25,7 @@ IsStanding a None = ((stream : ℕ) → log_of a stream ≡ []) × (a.room ≡ [
 IsStanding a (Some copy) = vec_items copy ≡ standing a
 
 -- the fields as a contract sees them
-abbrev pub kept_in : {Z : Type 0} → List ℕ → Both → List (Option (Vec Rec Z)) → Kept
+abbrev pub kept_in : {Z : Type 0} → List ℕ → Both → List (Option (Vec Rec Z)) → AreaLists
 kept_in base logs places = record { base = base; ranges = logs.ranges; deltas = logs.deltas; places = map (λ place. is_some place) places; room = logs.room }
 
 -- The logs lie in the area and don't disturb each other, the copy is the area as it stands, and a place has memory for all that

@@ -32,9 +32,9 @@ pub struct SharedMeta {
 }
 
 impl Model for SharedMeta {
-    ghost use Rattle.shared_meta.specs.Area.{Kept, area};
+    ghost use Rattle.shared_meta.specs.Area.{AreaLists, area};
 
-    ghost Value = { Kept };
+    ghost Value = { AreaLists };
 
     ghost use Rattle.shared_meta.specs.Held.{kept_in, IsHeld};
 

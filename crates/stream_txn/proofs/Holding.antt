@@ -4,13 +4,13 @@ use Rattle.std.proofs.lemmas.List.{length-set}
 use Rattle.std.specs.Prelude.{Option, None, is_some}
 use Rattle.file_bodies.specs.declared.batches.Sealed.{Sealed}
 use Rattle.stream_txn.specs.declared.updates.Unsealed.{Unsealed}
-use Rattle.stream_txn.specs.Kept.{Kept, AreTxnsOf, next, AreInOrder}
+use Rattle.stream_txn.specs.Kept.{TxnLists, AreTxnsOf, next, AreInOrder}
 use Rattle.stream_txn.specs.Space.{IsPlace, count, IsHeld}
 use Rattle.stream_txn.proofs.Queue.{count_within, count_less, in_order_last, length-seen, place_gone, place_made}
 
 module _ {Z : Type 0} where
   -- the sums changed
-  pub held_added : (kept new : Kept) (places : List (Option (Vec Sealed Z))) (capacity : ℕ) → IsHeld kept places capacity
+  pub held_added : (kept new : TxnLists) (places : List (Option (Vec Sealed Z))) (capacity : ℕ) → IsHeld kept places capacity
       → (unsealed : List Unsealed) → AreTxnsOf new unsealed → length new.ops ≡ 64 → new.queue ≡ kept.queue → new.seals ≡ kept.seals → new.places ≡ kept.places
       → IsHeld new places capacity
   held_added kept new places capacity h unsealed sums streams queue seals same = record {
@@ -24,7 +24,7 @@ module _ {Z : Type 0} where
   }
 
   -- what waited was handed out
-  pub held_out : (kept new : Kept) (places : List (Option (Vec Sealed Z))) (capacity left : ℕ) → IsHeld kept places capacity
+  pub held_out : (kept new : TxnLists) (places : List (Option (Vec Sealed Z))) (capacity left : ℕ) → IsHeld kept places capacity
       → (unsealed : List Unsealed) → AreTxnsOf new unsealed → length new.ops ≡ 64 → new.queue ≡ [] → new.places ≡ map (λ place. is_some place) places → length places ≡ 64
       → IsHeld new places left
   held_out kept new places capacity left h unsealed sums streams queue same long = record {
@@ -36,7 +36,7 @@ module _ {Z : Type 0} where
   }
 
   -- a stream with a place has memory for a batch
-  pub has_room : (kept : Kept) (places : List (Option (Vec Sealed Z))) (capacity own stream : ℕ) → IsHeld kept places capacity
+  pub has_room : (kept : TxnLists) (places : List (Option (Vec Sealed Z))) (capacity own stream : ℕ) → IsHeld kept places capacity
       → get_or kept.places stream false ≡ true → 64 ≤ own → length kept.queue < max capacity own
   has_room kept places capacity own stream h e l =
       let had : length kept.queue + count kept.places ≤ max capacity 64 = h.room in
@@ -44,7 +44,7 @@ module _ {Z : Type 0} where
       omega arith
 
   -- a stream was sealed
-  pub held_sealed : (kept new : Kept) (places : List (Option (Vec Sealed Z))) (capacity grown stream : ℕ) (batch : Sealed) → IsHeld kept places capacity
+  pub held_sealed : (kept new : TxnLists) (places : List (Option (Vec Sealed Z))) (capacity grown stream : ℕ) (batch : Sealed) → IsHeld kept places capacity
       → get_or kept.places stream false ≡ true → (unsealed : List Unsealed) → AreTxnsOf new unsealed → length new.ops ≡ 64
       → new.queue ≡ kept.queue ++ batch ∷ [] → batch.number ≡ next kept.seals → new.seals ≡ batch.number → new.places ≡ set kept.places stream false → capacity ≤ grown
       → IsHeld new (set places stream None) grown
@@ -64,7 +64,7 @@ module _ {Z : Type 0} where
   }
 
   -- a place was made
-  pub held_placed : (kept new : Kept) (places : List (Option (Vec Sealed Z))) (capacity grown stream : ℕ) (place : Option (Vec Sealed Z)) → IsHeld kept places capacity
+  pub held_placed : (kept new : TxnLists) (places : List (Option (Vec Sealed Z))) (capacity grown stream : ℕ) (place : Option (Vec Sealed Z)) → IsHeld kept places capacity
       → (unsealed : List Unsealed) → AreTxnsOf new unsealed → length new.ops ≡ 64 → new.queue ≡ kept.queue → new.seals ≡ kept.seals
       → new.places ≡ map (λ p. is_some p) (set places stream place) → length places ≡ 64 → stream < 64 → IsPlace place → length kept.queue + 64 ≤ grown
       → IsHeld new (set places stream place) grown
@@ -77,7 +77,7 @@ module _ {Z : Type 0} where
   }
 
   -- nothing is there yet
-  pub held_none : (kept : Kept) (places : List (Option (Vec Sealed Z))) (capacity : ℕ) → AreTxnsOf kept [] → length kept.ops ≡ 64 → kept.queue ≡ []
+  pub held_none : (kept : TxnLists) (places : List (Option (Vec Sealed Z))) (capacity : ℕ) → AreTxnsOf kept [] → length kept.ops ≡ 64 → kept.queue ≡ []
       → kept.places ≡ map (λ place. is_some place) places → length places ≡ 64 → ((s : ℕ) → get_or places s None ≡ None) → IsHeld kept places capacity
   held_none kept places capacity sums streams queue same long none = record {
     streams = streams;

@@ -11,7 +11,7 @@ use Rattle.stream_txn.specs.Accounts.{account_at, AreSumsOf}
 
 -- The sums, the operations and whether there is a place in the queue, by streams, stream 0 first; the totals over all streams;
 -- how many batches were sealed; the batches that wait; and how many operations the memory of each stream has places for.
-pub record Kept : Type 0 where
+pub record TxnLists : Type 0 where
   pub accounts : List Account
   pub ops : List (List BodyOp)
   pub places : List Bool
@@ -22,45 +22,45 @@ pub record Kept : Type 0 where
   pub spaces : List ℕ
 
 -- these are the updates that are not sealed, in their order: the sums and operations that are kept are theirs
-abbrev pub AreTxnsOf : Kept → List Unsealed → Type 0
+abbrev pub AreTxnsOf : TxnLists → List Unsealed → Type 0
 AreTxnsOf kept unsealed = AreSumsOf kept.accounts kept.ops kept.gave_blocks kept.gave_rows unsealed
 
 -- whether a stream has a place in the queue
-abbrev pub has_place : Kept → ℕ → Bool
+abbrev pub has_place : TxnLists → ℕ → Bool
 has_place kept stream = slice_index_or kept.places stream false
 
 -- how many blocks the updates gave up that are not sealed, without those of the stream that is named, if one is
-abbrev pub blocks_but : Kept → Option ℕ → ℕ
+abbrev pub blocks_but : TxnLists → Option ℕ → ℕ
 blocks_but kept None = kept.gave_blocks
 blocks_but kept (Some stream) = kept.gave_blocks - (account_at kept.accounts stream).gave_blocks
 
 -- the same for rows
-abbrev pub rows_but : Kept → Option ℕ → ℕ
+abbrev pub rows_but : TxnLists → Option ℕ → ℕ
 rows_but kept None = kept.gave_rows
 rows_but kept (Some stream) = kept.gave_rows - (account_at kept.accounts stream).gave_rows
 
 -- what is kept, with a place in the queue for a stream
-abbrev pub placed : Kept → ℕ → Kept
+abbrev pub placed : TxnLists → ℕ → TxnLists
 placed kept stream = record kept { places = slice_set kept.places stream true }
 
 -- the same with other memory for the operations
-abbrev pub roomed : Kept → List ℕ → Kept
+abbrev pub roomed : TxnLists → List ℕ → TxnLists
 roomed kept spaces = record kept { spaces = spaces }
 
 -- a stream has room for an update with so many operations
-abbrev pub HasOpRoom : Kept → ℕ → ℕ → Type 0
+abbrev pub HasOpRoom : TxnLists → ℕ → ℕ → Type 0
 HasOpRoom kept stream count = HasRoom kept.ops kept.spaces stream count
 
 -- each stream has room for all updates that it had room for
-abbrev pub IsOpRoomKept : Kept → Kept → Type 0
+abbrev pub IsOpRoomKept : TxnLists → TxnLists → Type 0
 IsOpRoomKept old new = (stream count : ℕ) → HasOpRoom old stream count → HasOpRoom new stream count
 
 -- the same but for one stream
-abbrev pub IsOpRoomKeptBut : Kept → ℕ → Kept → Type 0
+abbrev pub IsOpRoomKeptBut : TxnLists → ℕ → TxnLists → Type 0
 IsOpRoomKeptBut old but new = (stream count : ℕ) → stream ≢ but → HasOpRoom old stream count → HasOpRoom new stream count
 
 -- the same with no batches that wait
-abbrev pub handed_out : Kept → Kept
+abbrev pub handed_out : TxnLists → TxnLists
 handed_out kept = record kept { queue = [] }
 
 -- the number behind another: 1 behind 0, and 0 behind 2 ^ 64 - 1

@@ -4,7 +4,7 @@ use Rattle.file_bodies.specs.declared.batches.Sealed.{Sealed}
 use Rattle.stream_txn.specs.declared.accounts.Account.{Account}
 use Rattle.stream_txn.specs.declared.updates.Unsealed.{Unsealed}
 use Rattle.stream_txn.specs.Held.{KeptOps}
-use Rattle.stream_txn.specs.Kept.{Kept, AreTxnsOf, AreInOrder}
+use Rattle.stream_txn.specs.Kept.{TxnLists, AreTxnsOf, AreInOrder}
 
 -- a place is an empty list with memory for a batch of each stream
 abbrev pub IsPlace : {Z : Type 0} → Option (Vec Sealed Z) → Type 0
@@ -18,7 +18,7 @@ count (true ∷ rest) = count rest + 1
 count (false ∷ rest) = count rest
 
 -- the fields as a contract sees them
-abbrev pub kept_in : {Z : Type 0} → List Account → ℕ → ℕ → KeptOps → List (Option (Vec Sealed Z)) → ℕ → List Sealed → Kept
+abbrev pub kept_in : {Z : Type 0} → List Account → ℕ → ℕ → KeptOps → List (Option (Vec Sealed Z)) → ℕ → List Sealed → TxnLists
 kept_in accounts blocks rows ops places seals queue = record {
   accounts = accounts;
   ops = ops.logs;
@@ -33,7 +33,7 @@ kept_in accounts blocks rows ops places seals queue = record {
 -- The sums are those of some updates, and the numbers of the batches that wait are in order up to the last. The queue or each
 -- place has memory for the batches that wait and one of each stream that has a place: where 2 wait and 3 streams have a place,
 -- for 5.
-pub record IsHeld {Z : Type 0} (kept : Kept) (places : List (Option (Vec Sealed Z))) (capacity : ℕ) : Type 0 where
+pub record IsHeld {Z : Type 0} (kept : TxnLists) (places : List (Option (Vec Sealed Z))) (capacity : ℕ) : Type 0 where
   pub streams : length kept.ops ≡ 64
   pub sums : (unsealed : List Unsealed) × AreTxnsOf kept unsealed
   pub order : (first : ℕ) × AreInOrder first kept.queue kept.seals

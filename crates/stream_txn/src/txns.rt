@@ -35,10 +35,10 @@ pub struct Txns {
 
 impl Model for Txns {
     ghost use Rattle.std.specs.Prelude.{vec_capacity};
-    ghost use Rattle.stream_txn.specs.Kept.{Kept};
+    ghost use Rattle.stream_txn.specs.Kept.{TxnLists};
     ghost use Rattle.stream_txn.specs.Space.{kept_in, IsHeld};
 
-    ghost Value = { Kept };
+    ghost Value = { TxnLists };
 
     ghost view = { λ t. kept_in t.accounts t.gave_blocks t.gave_rows t.ops t.places t.seals t.queue.items };
 

@@ -12,7 +12,7 @@ use Rattle.tree_model.specs.declared.picturing.Item.{Item}
 use Rattle.tree_model.specs.declared.rows.Row.{Row}
 use Rattle.tree_model.specs.Rows.{Rows}
 use Rattle.tree_model.specs.Entries.{Index, children, entries_of}
-use Rattle.tree_model.specs.Nodes.{Kept}
+use Rattle.tree_model.specs.Nodes.{IndexedRow}
 use Rattle.tree_model.specs.Picture.{item_kind, head, items, with_entries, node_of, below}
 
 -- the items of a row and of those below it, by depth and serial
@@ -95,11 +95,11 @@ less_ahead levels t ahead depth x =
     omega arith
 
 -- ---- what a node shows
-parts : (i : Index) (o : Option Row) (k : Kept) → with_entries i o ≡ Some k → (o ≡ Some k.0) × (i ≡ k.1)
+parts : (i : Index) (o : Option Row) (k : IndexedRow) → with_entries i o ≡ Some k → (o ≡ Some k.0) × (i ≡ k.1)
 parts i None k e = absurd (cc)
 parts i (Some r) k e = (cc, cc)
 
-pub head_shown : (t : Rows) (depth x : ℕ) (k : Kept) → Some k ≡ node_of t x
+pub head_shown : (t : Rows) (depth x : ℕ) (k : IndexedRow) → Some k ≡ node_of t x
     → head t depth x (get t x) ≡ (record { depth = depth; name = k.0.name; kind = item_kind (len k.1) k.0.body }) ∷ []
 head_shown t depth x k is =
     let p = parts (entries_of t x) (get t x) k (sym is) in

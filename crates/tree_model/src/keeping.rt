@@ -30,7 +30,7 @@ impl Model for Tree {
     ghost use Rattle.std.specs.Ordering.{nat_cmp};
     ghost use Rattle.tree_model.specs.declared.rows.Row.{Row};
     ghost use Rattle.tree_model.specs.contracts.rows.Row as of_row;
-    ghost use Rattle.tree_model.specs.Nodes.{rows_in, IsKept};
+    ghost use Rattle.tree_model.specs.Nodes.{rows_in, AreIndexed};
 
     ghost Value = { map.FinMap nat_cmp Row };
 
@@ -38,7 +38,7 @@ impl Model for Tree {
 
     ghost view = { λ a. rows_in a.nodes };
 
-    ghost invariant = { λ a. IsKept a.nodes };
+    ghost invariant = { λ a. AreIndexed a.nodes };
 }
 
 impl Tree {

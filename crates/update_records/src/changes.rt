@@ -2,15 +2,15 @@
 ghost use Rattle.std.specs.Prelude.{◌≡◌, ◌-◌, ◌^◌, ◌++◌, [], ◌∷◌, true, IfOk, OnOk};
 ghost use Rattle.ccfs_base.specs.declared.records.Rec.TheVariants as variants;
 ghost use Rattle.inode_table.specs.Attrs.{attr_bytes};
-ghost use Rattle.inode_table.specs.Records.{record_place};
+ghost use Rattle.inode_table.specs.Records.{record_offset};
 ghost use Rattle.flat_dirs.specs.Slot.{slot_bytes};
-ghost use Rattle.image_model.specs.Fields.{slot_place};
+ghost use Rattle.image_model.specs.Fields.{slot_offset};
 ghost use Rattle.image_model.specs.Changes.{New, Drop, Touch, Enter, records_of, frees, kind_made, marks, new_attr, slot_of};
 
 use block_layout::BLOCK_SIZE;
 use ccfs_base::{Bytes, Name, NoMemory, Rec, Recs};
 use flat_dirs::{Slot, encode_slot};
-use inode_table::{Attr, Kind, encode_attr, record_place};
+use inode_table::{Attr, Kind, encode_attr, record_offset};
 use std::alloc::Global;
 
 /// Where the count of free inodes stands.
@@ -47,7 +47,7 @@ pub(crate) fn push_new(
 
 /// Puts the record last that gives a new inode its attributes.
 fn push_attr(recs: &mut Recs, alloc: Global, inode: u32, is_dir: bool) -> Result<(), NoMemory>
-    ensures { OnOk result (recs.new ≡ recs.old ++ variants.Range (record_place inode) (attr_bytes (new_attr (kind_made is_dir))) ∷ []) }
+    ensures { OnOk result (recs.new ≡ recs.old ++ variants.Range (record_offset inode) (attr_bytes (new_attr (kind_made is_dir))) ∷ []) }
 {
     recs.push(attr_record(alloc, inode, is_dir)?)
 }
@@ -73,7 +73,7 @@ pub(crate) fn push_touch(recs: &mut Recs, inodes: u32, inode: u32) -> Result<(),
     ensures { OnOk result (recs.new ≡ recs.old ++ records_of inodes (Touch inode)) }
 {
     recs.push(Rec::Add {
-        off: record_place(inode) + CHANGES,
+        off: record_offset(inode) + CHANGES,
         by: 1,
     })
 }
@@ -115,7 +115,7 @@ fn free_record(by: u64) -> Rec
 
 /// The record that gives a new inode its attributes.
 fn attr_record(alloc: Global, inode: u32, is_dir: bool) -> Result<Rec, NoMemory>
-    ensures { IfOk result (λ rec. rec ≡ variants.Range (record_place inode) (attr_bytes (new_attr (kind_made is_dir)))) }
+    ensures { IfOk result (λ rec. rec ≡ variants.Range (record_offset inode) (attr_bytes (new_attr (kind_made is_dir)))) }
 {
     let attr = Attr {
         kind: kind_made(is_dir),
@@ -123,7 +123,7 @@ fn attr_record(alloc: Global, inode: u32, is_dir: bool) -> Result<Rec, NoMemory>
         changes: 0,
     };
     Ok(Rec::Range {
-        off: record_place(inode),
+        off: record_offset(inode),
         bytes: Bytes::of(alloc, &encode_attr(&attr))?,
     })
 }
@@ -143,21 +143,21 @@ fn slot_record(
     parent: u32,
     name: &Name,
 ) -> Result<Rec, NoMemory>
-    ensures { IfOk result (λ rec. rec ≡ variants.Range (slot_place inodes inode) (slot_bytes (slot_of parent name.now))) }
+    ensures { IfOk result (λ rec. rec ≡ variants.Range (slot_offset inodes inode) (slot_bytes (slot_of parent name.now))) }
 {
     let slot = Slot {
         parent,
         name: *name,
     };
     Ok(Rec::Range {
-        off: slot_place(inodes, inode),
+        off: slot_offset(inodes, inode),
         bytes: Bytes::of(alloc, &encode_slot(&slot))?,
     })
 }
 
 /// Where in the volume the slot of an inode begins, where there are so many inodes.
-fn slot_place(inodes: u32, inode: u32) -> u64
-    ensures { result ≡ slot_place inodes inode }
+fn slot_offset(inodes: u32, inode: u32) -> u64
+    ensures { result ≡ slot_offset inodes inode }
 {
     let block = BEFORE_INODES + inodes / 16 + inode / 32;
     u64::from(BLOCK_SIZE) * u64::from(block) + u64::from(SLOT_STRIDE * (inode % 32))

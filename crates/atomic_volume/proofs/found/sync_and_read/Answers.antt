@@ -2,7 +2,7 @@ use Rattle.std.proofs.Common.{ℕ, List, Result, Ok, Err, IfOk, refl, sym, ◌�
 use Rattle.std.specs.Prelude.{IfErr}
 use Rattle.gate_journal.proofs.Quiets.{quiet_one, quiet_then}
 use Rattle.atomic_volume.specs.Opening.{opened}
-use Rattle.atomic_volume.specs.Held.{Holds}
+use Rattle.atomic_volume.specs.Held.{ReadsAs}
 use Rattle.atomic_volume.specs.Refusals.{Refuses}
 use Rattle.atomic_volume.proofs.Finds.{found_mid, found_settled}
 use Rattle.atomic_volume.specs.declared.fault.VolumeFault.TheVariants.{Device}
@@ -52,7 +52,7 @@ returns-clause-holds g c = λ told.
     let durable = c.in_ok-sync.ensures.durable told in let settled = c.in_ok-sync.ensures.settled told in
     let quiet = c.read_image.ensures.quiet told in
     if_ok _ _ c.read_image.result (c.read_image.ensures.holds told settled) (λ image holds x may.
-    subst (Holds image.geometry image.half image.volume.items)
+    subst (ReadsAs image.geometry image.half image.volume.items)
     (sym (found_mid d s0 s1 s2 (law s1) (law s2) (g.met.D.Disk.may_leave_seen told s1) (e.time told) (e.crash told) (e.contents told) durable settled quiet x may)) holds)
 
 pub returns-in_err-sync-clause-steady : goal.returns-in_err-sync-clause-steady

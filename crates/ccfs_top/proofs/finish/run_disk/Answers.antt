@@ -3,7 +3,7 @@ use Rattle.std.proofs.lemmas.Result.{IfOk-weaker, IfErr-weaker}
 use Rattle.atomic_volume.specs.Held.{contents_by}
 use Rattle.ccfs_top.specs.declared.stop.Stop.{Stop}
 use Rattle.ccfs_top.specs.Images.{Image}
-use Rattle.ccfs_top.specs.Left.{HaltsOn}
+use Rattle.ccfs_top.specs.Outcomes.{HaltsOn}
 use Rattle.ccfs_top.specs.Runs.{image_by, ran, over}
 use Rattle.ccfs_top.proofs.Ending.{open_late}
 use Rattle.ccfs_top.proofs.Finishing.{halts_shut, done_behind, halts_behind}

@@ -9,7 +9,7 @@ use Rattle.recovery.specs.Recovering.{shown_for_now}
 use Rattle.fault_counts.specs.Counts.{Rose}
 use Rattle.ccfs_top.specs.declared.stop.Stop.{Stop}
 use Rattle.ccfs_top.specs.Ends.{joined}
-use Rattle.ccfs_top.specs.Left.{Kept, Halts}
+use Rattle.ccfs_top.specs.Outcomes.{CrashSafe, Halts}
 use Rattle.ccfs_top.specs.Runs.{image_by, final_number, final_tree, ran}
 use Rattle.ccfs_top.proofs.Ending.{fault_late}
 use Rattle.ccfs_top.proofs.Viewing.{shown_of}
@@ -25,7 +25,7 @@ told_shown is = cc is
 pub returns-in-Err-clause-halts : goal.returns-in-Err-clause-halts
 returns-in-Err-clause-halts g c = λ told.
     let s = c.args.session in let calls = c.args.calls.now in let image = image_by s.first s.front in
-    subst (λ x. Halts (ran image calls) c.in-Err.fault (Kept g.D.Disk s.volume.disk x image calls) g.K.Sink.tells (g.K.Sink.held c.args.out.now) (g.K.Sink.held c.perform_all.new.out)) (sym c.end.ensures)
+    subst (λ x. Halts (ran image calls) c.in-Err.fault (CrashSafe g.D.Disk s.volume.disk x image calls) g.K.Sink.tells (g.K.Sink.held c.args.out.now) (g.K.Sink.held c.perform_all.new.out)) (sym c.end.ensures)
     (c.in-Err.ensures.halts told)
 
 pub returns-in-Err-clause-sink_cause : goal.returns-in-Err-clause-sink_cause
@@ -90,7 +90,7 @@ returns-in-Err-write_shown-clause-halts g c = λ told.
     let holds = v.sound told c.in-Ok.ensures.working (d.seen v.disk) (g.met.D.Disk.may_leave_seen told v.disk) in
     let shows : shown_for_now (d.seen disk) ≡ Some (number, items) = ap (λ x. shown_for_now (d.seen x)) is ∙ shown_of v.geometry v.half v.volume.items (d.seen v.disk) number items holds c.in-Ok.ensures.shows in
     let e = c.in-Err-write_shown.ensures in
-    halts_tree (ran image calls) c.in-Err-write_shown.fault (Kept d s.volume.disk new image calls) g.K.Sink.tells (g.K.Sink.held c.args.out.now) (g.K.Sink.held c.perform_all.new.out) (g.K.Sink.held c.write_shown.new.out)
+    halts_tree (ran image calls) c.in-Err-write_shown.fault (CrashSafe d s.volume.disk new image calls) g.K.Sink.tells (g.K.Sink.held c.args.out.now) (g.K.Sink.held c.perform_all.new.out) (g.K.Sink.held c.write_shown.new.out)
     refl (e.fault told settled number items shows)
     (kept_then d s.volume.disk v.disk new image calls _ (g.met.D.Disk.counts_now told) (c.in-Ok.ensures.kept told) (subst (λ x. Quiet d x new) is (e.quiet told)))
     (λ sink_told. c.in-Ok.ensures.text sink_told)

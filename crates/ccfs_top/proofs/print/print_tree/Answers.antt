@@ -8,7 +8,7 @@ use Rattle.tree_model.specs.declared.picturing.Item.{Item}
 use Rattle.tree_model.specs.Picture.{picture}
 use Rattle.tree_model.specs.Rows.{Rows}
 use Rattle.script_text.specs.Trees.{tree_lines}
-use Rattle.ccfs_top.specs.Images.{Holds, RecoversTo}
+use Rattle.ccfs_top.specs.Images.{Good, RecoversTo}
 use Rattle.ccfs_top.specs.Runs.{printed, over}
 use Rattle.ccfs_top.proofs.Ending.{fault_decides, fault_late, open_late}
 use Rattle.ccfs_top.proofs.Finishing.{tree_fault, grew_tree, found_by, finds_refused, decides_refused, grew_refused}
@@ -45,7 +45,7 @@ returns-clause-halts g c = λ told settled.
     let new = g.K.Sink.held c.write_tree.new.out in
     let spelled : c.all.result.now ≡ picture v.tree = c.all.ensures ∙ c.in-Ok-picture.ensures in
     let fault = tree_fault s c.in-Err-write_tree.ensures.kinds in (
-      Holds p,
+      Good p,
       c.in-Ok.ensures.recovers told settled,
       fault_decides (printed p) s refl fault.0,
       λ sink_told. grew_tree (printed p) s old old new (sym (append-nil old)) fault.0

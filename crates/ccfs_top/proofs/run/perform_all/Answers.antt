@@ -23,7 +23,7 @@ use Rattle.ccfs_top.specs.declared.stop.Stop.{Stop}
 use Rattle.script_text.specs.declared.scripts.Call.{Call}
 use Rattle.ccfs_top.specs.Ends.{joined}
 use Rattle.ccfs_top.specs.Images.{Image}
-use Rattle.ccfs_top.specs.Left.{Kept, Within}
+use Rattle.ccfs_top.specs.Outcomes.{CrashSafe, Within}
 use Rattle.ccfs_top.specs.Runs.{further, image_by, reply_lines, ran}
 use Rattle.ccfs_top.specs.Stages.{called}
 use Rattle.ccfs_top.specs.Reached.{Reached}
@@ -192,7 +192,7 @@ loop-call-preserved g c =
       settled = c.in-Ok.ensures.settled;
       last = c.in-Ok.ensures.last;
       working = c.in-Ok.ensures.working;
-      since = λ told. (let kept : Kept g.D.Disk first.volume.disk n.volume.disk image calls i =
+      since = λ told. (let kept : CrashSafe g.D.Disk first.volume.disk n.volume.disk image calls i =
           kept_on g.D.Disk first.volume.disk s.volume.disk n.volume.disk image calls i call h s.written (g.met.D.Disk.counts_now told n.volume.disk)
           lt is v.reached.entries v.reached.acknowledged (v.since told)
           (leaves_wider g.D.Disk s.volume.disk n.volume.disk _ (Within image (called image.sizes image.tree h call.actor call.command) s.written)

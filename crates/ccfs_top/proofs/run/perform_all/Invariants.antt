@@ -4,7 +4,7 @@ use Rattle.gate_journal.specs.Runs.{LeavesBy}
 use Rattle.image_model.specs.Checks.{is_last}
 use Rattle.ccfs_top.specs.Ends.{joined}
 use Rattle.ccfs_top.specs.Runs.{image_by, reply_lines, further}
-use Rattle.ccfs_top.specs.Left.{Within, first_history}
+use Rattle.ccfs_top.specs.Outcomes.{Within, first_history}
 use Rattle.ccfs_top.specs.Reached.{Reached}
 use Rattle.ccfs_top.specs.Sessions.{Settled}
 use Rattle.ccfs_top.proofs.run.perform_all.Given as goal

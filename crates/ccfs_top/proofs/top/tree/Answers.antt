@@ -1,7 +1,7 @@
 use Rattle.std.proofs.Common.{inr, ap, refl, arith}
 use Rattle.std.specs.declared.result.Result.TheVariants.{Err}
 use Rattle.fault_counts.specs.Counts.{Rose}
-use Rattle.ccfs_top.specs.Images.{Holds}
+use Rattle.ccfs_top.specs.Images.{Good}
 use Rattle.ccfs_top.specs.Runs.{over, printed}
 use Rattle.ccfs_top.proofs.Closing.{late_status, plain_printed, ends_with, ends_done, wrote_stop, wrote_done}
 use Rattle.ccfs_top.proofs.top.tree.Goals as goal
@@ -12,9 +12,9 @@ returns-in-Ok-clause-printed g c = λ told settled.
     let k = g.K.Sink in
     let old = c.args.out.now in
     let new = c.print_tree.new.out in
-    let e = over printed (Holds o.0) in
+    let e = over printed (Good o.0) in
     record {
-      seen = Holds o.0;
+      seen = Good o.0;
       finds = o.1;
       ends = ends_done e c.in-Ok.batches refl o.2;
       wrote = λ sink_told. wrote_done e (Rose (k.faults old) (k.faults new)) (k.held old) (k.held new) refl (o.3 sink_told);

@@ -1,5 +1,5 @@
 use Rattle.std.proofs.Common.{sym, ◌∙◌, subst}
-use Rattle.atomic_volume.specs.Held.{Holds, contents_by}
+use Rattle.atomic_volume.specs.Held.{ReadsAs, contents_by}
 use Rattle.atomic_volume.proofs.Switches.{holds_moved, moved_by}
 use Rattle.atomic_volume.proofs.volume.Volume.checkpoint.Goals as goal
 
@@ -12,7 +12,7 @@ invariant_of-self g c =
       known_is = c.move_home.ensures.known ∙ v.known_is;
       settled = λ told working. c.in-Ok.ensures.settled told;
       sound = λ told working x may.
-          subst (Holds v.geometry c.in-Ok.half v.volume.items) (sym (c.in-Ok.ensures.durable told x may))
+          subst (ReadsAs v.geometry c.in-Ok.half v.volume.items) (sym (c.in-Ok.ensures.durable told x may))
           (holds_moved v.geometry v.half c.in-Ok.half v.volume.items (d.seen s0) (d.seen s1) (v.sound told c.requires.working (d.seen s0) (g.met.D.Disk.may_leave_seen told s0))
           (c.in-Ok.ensures.bears told) (c.in-Ok.ensures.opens told) c.in-Ok.ensures.empty
           (g.met.D.Disk.length_seen told s1 ∙ c.move_home.ensures.known ∙ sym (g.met.D.Disk.length_seen told s0)));

@@ -2,7 +2,7 @@ use Rattle.std.proofs.Common.{inl, inr, refl, sym, ◌∙◌, arith, rules}
 use Rattle.atomic_volume.proofs.Steady.{unless_ok}
 use Rattle.front_core.specs.Fronts.{seals_of}
 use Rattle.ccfs_top.specs.Sessions.{ShowsOneOf}
-use Rattle.ccfs_top.proofs.Rooms.{none_taken}
+use Rattle.ccfs_top.proofs.JournalSpaces.{none_taken}
 use Rattle.ccfs_top.proofs.Committing.{settled_shows}
 use Rattle.ccfs_top.proofs.Leaving.{stays_shown, leaves_wider}
 use Rattle.ccfs_top.proofs.Stepping.{settled_acted, settled_asked, asked_of, shows_acted, stepped_sync, stepped_other}

@@ -3,9 +3,9 @@ use Rattle.gate_journal.specs.Halves.{journal_of}
 use Rattle.flat_dirs.proofs.Listing.{on_err}
 use Rattle.atomic_volume.proofs.Steady.{unless_ok}
 use Rattle.front_core.specs.Fronts.{Fronted, seals_of}
-use Rattle.ccfs_top.specs.Taken.{room_in, taken_by, size_at, HasTaken}
+use Rattle.ccfs_top.specs.JournalSpace.{space_used, taken_by, size_at, HasTaken}
 use Rattle.ccfs_top.specs.Sessions.{Settled, ShowsOneOf}
-use Rattle.ccfs_top.proofs.Rooms.{none_taken, one_taken}
+use Rattle.ccfs_top.proofs.JournalSpaces.{none_taken, one_taken}
 use Rattle.ccfs_top.proofs.Committing.{settled_shows}
 use Rattle.ccfs_top.proofs.Leaving.{stays_shown, leaves_join, leaves_wider}
 use Rattle.ccfs_top.proofs.Writing.{settled_handed, taken_handed, shows_all, next_is, next_more, all_written}
@@ -73,8 +73,8 @@ loop-batch-preserved g c =
       settled = c.in_ok-commit.ensures.settled;
       taken =
           let so_far = l.invariant.written in
-          let one : room_in (journal_of n.volume.half) ≡ taken_by (room_in (journal_of l.self.volume.half)) (size_at s.front l.self.written) =
-          c.in_ok-commit.ensures.taken ∙ ap (λ (z : Fronted). taken_by (room_in (journal_of l.self.volume.half)) (size_at z l.self.written)) l.invariant.front in
+          let one : space_used (journal_of n.volume.half) ≡ taken_by (space_used (journal_of l.self.volume.half)) (size_at s.front l.self.written) =
+          c.in_ok-commit.ensures.taken ∙ ap (λ (z : Fronted). taken_by (space_used (journal_of l.self.volume.half)) (size_at z l.self.written)) l.invariant.front in
           subst (λ (z : ℕ). HasTaken s.front s.written z s.volume.half n.volume.half) (sym c.in_ok-commit.ensures.written)
           (one_taken s.front s.written l.self.written s.volume.half l.self.volume.half n.volume.half (omega (arith, so_far)) l.invariant.taken one);
       last = c.in_ok-commit.ensures.last;

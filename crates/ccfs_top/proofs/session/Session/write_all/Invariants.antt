@@ -4,7 +4,7 @@ use Rattle.gate_journal.specs.Runs.{LeavesBy}
 use Rattle.image_model.specs.Checks.{is_last}
 use Rattle.front_core.specs.Fronts.{seals_of}
 use Rattle.ccfs_top.specs.Runs.{further}
-use Rattle.ccfs_top.specs.Taken.{HasTaken}
+use Rattle.ccfs_top.specs.JournalSpace.{HasTaken}
 use Rattle.ccfs_top.specs.Sessions.{Settled, ShowsOneOf}
 use Rattle.ccfs_top.proofs.Writing.{handed_to}
 use Rattle.ccfs_top.proofs.session.Session.write_all.Given as goal

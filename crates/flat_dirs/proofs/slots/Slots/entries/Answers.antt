@@ -5,7 +5,7 @@ use Rattle.std.specs.List.Sorted.{IsStrictlySortedBy}
 use Rattle.std.specs.FinMap as map
 use Rattle.std.specs.List.{filter}
 use Rattle.std.proofs.lemmas.Result.{IfOk-weaker, on_err_weaker}
-use Rattle.flat_dirs.specs.Index.{Place, is_below}
+use Rattle.flat_dirs.specs.Index.{SlotKey, is_below}
 use Rattle.flat_dirs.specs.Slots.{entries_in, by_name}
 use Rattle.flat_dirs.proofs.Listing.{places_listed, none_mapped}
 use Rattle.flat_dirs.proofs.Listed.{listed_just, listed_in_order}
@@ -30,4 +30,4 @@ returns-clause-ordered c =
 pub returns-clause-some : goal.returns-clause-some
 returns-clause-some c =
     let listed = places_listed (map.from_entries c.self.inside.slots.entries) c.self.inside.places c.args.parent c.self.invariant c.all_below.ensures.ordered ∙ ap (λ m. entries_in m c.args.parent) c.self.view_is in
-    on_err_weaker c.all_below.result (λ some none. some (none_mapped (λ (k : Place). k.2) (filter (is_below c.args.parent) c.self.inside.places.keys) (listed ∙ none))) c.all_below.ensures.some
+    on_err_weaker c.all_below.result (λ some none. some (none_mapped (λ (k : SlotKey). k.2) (filter (is_below c.args.parent) c.self.inside.places.keys) (listed ∙ none))) c.all_below.ensures.some

@@ -2,7 +2,7 @@ use Rattle.std.proofs.Common.{rules, ◌≡◌, inl, ◌+◌, ◌≤◌, ℕ, Li
 use Rattle.std.specs.List.{All}
 use Rattle.std.proofs.lemmas.List.Elements.{All-append}
 use Rattle.disk_model.proofs.Runs.{elapses_start}
-use Rattle.gate_journal.specs.Places.{halves_end}
+use Rattle.gate_journal.specs.Offsets.{halves_end}
 use Rattle.gate_journal.specs.declared.batches.Range.{Range}
 use Rattle.gate_journal.specs.Batches.{batch_bytes, range_bytes, Stands}
 use Rattle.gate_journal.specs.Halves.{journal_of}

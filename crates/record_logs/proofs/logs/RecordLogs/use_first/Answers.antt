@@ -1,12 +1,12 @@
 use Rattle.std.proofs.Common.{arith, ◌≡◌, length, ap}
-use Rattle.record_logs.specs.Kept.{Kept}
+use Rattle.record_logs.specs.Kept.{LogLists}
 use Rattle.record_logs.specs.Held.{recs_of, places_of}
 use Rattle.record_logs.proofs.Memory.{length-recs}
 use Rattle.record_logs.proofs.Room.{length-calls, first_out, served_used, called_from}
 use Rattle.record_logs.proofs.logs.RecordLogs.use_first.Goals as goal
 
 pub remove-call-requires : goal.remove-call-requires
-remove-call-requires c = omega (arith, ap (λ (z : Kept). length z.room) c.self.view_is, length-calls c.self.inside.room.items, c.self.inside.room.ok.0)
+remove-call-requires c = omega (arith, ap (λ (z : LogLists). length z.room) c.self.view_is, length-calls c.self.inside.room.items, c.self.inside.room.ok.0)
 
 pub use_at-requires : goal.use_at-requires
 use_at-requires c =

@@ -1,7 +1,7 @@
 use Rattle.std.proofs.Common.{◌≡◌, ℕ, ◌++◌, List, length, sym, ap, subst, ◌∙◌, Vec, Global, Option}
 use Rattle.ccfs_base.specs.declared.records.Rec.{Rec}
 use Rattle.ccfs_base.specs.Records.{all_recorded}
-use Rattle.shared_meta.specs.Area.{Kept, area, standing, IsSealed}
+use Rattle.shared_meta.specs.Area.{AreaLists, area, standing, IsSealed}
 use Rattle.shared_meta.specs.Merged.{list_at}
 use Rattle.shared_meta.specs.Held.{IsHeld, kept_in}
 use Rattle.shared_meta.proofs.AreaLaws.{seals_keep}
@@ -28,7 +28,7 @@ returns-clause-sealed c =
     whole c.apply_all.new.bytes c.self.inside.base.items c.self.inside.base.len (c.apply_all.auto.bytes ∙ c.deref_mut.ensures.len) ∙ sym base in
     let sealed : IsSealed (area (kept_in c.self.inside.base.items c.self.inside.logs c.self.inside.places)) c.args.stream (area (kept_in (take c.self.inside.base.len (c.apply_all.new.bytes ++ drop (length c.apply_all.new.bytes) c.self.inside.base.items)) c.take.new.self c.take_place.new.places)) =
     sealed_in c.self.inside.base.items (take c.self.inside.base.len (c.apply_all.new.bytes ++ drop (length c.apply_all.new.bytes) c.self.inside.base.items)) c.self.inside.logs c.take.new.self c.self.inside.places c.take_place.new.places c.args.stream is c.take.ensures.ranges c.take.ensures.deltas c.take.ensures.room c.take_place.ensures.left in
-    subst (λ (k : Kept). IsSealed (area k) c.args.stream (area (kept_in (take c.self.inside.base.len (c.apply_all.new.bytes ++ drop (length c.apply_all.new.bytes) c.self.inside.base.items)) c.take.new.self c.take_place.new.places))) c.self.view_is sealed
+    subst (λ (k : AreaLists). IsSealed (area k) c.args.stream (area (kept_in (take c.self.inside.base.len (c.apply_all.new.bytes ++ drop (length c.apply_all.new.bytes) c.self.inside.base.items)) c.take.new.self c.take_place.new.places))) c.self.view_is sealed
 
 pub returns-clause-stays : goal.returns-clause-stays
 returns-clause-stays c =
@@ -38,4 +38,4 @@ returns-clause-stays c =
     whole c.apply_all.new.bytes c.self.inside.base.items c.self.inside.base.len (c.apply_all.auto.bytes ∙ c.deref_mut.ensures.len) ∙ sym base in
     let sealed : IsSealed (area (kept_in c.self.inside.base.items c.self.inside.logs c.self.inside.places)) c.args.stream (area (kept_in (take c.self.inside.base.len (c.apply_all.new.bytes ++ drop (length c.apply_all.new.bytes) c.self.inside.base.items)) c.take.new.self c.take_place.new.places)) =
     sealed_in c.self.inside.base.items (take c.self.inside.base.len (c.apply_all.new.bytes ++ drop (length c.apply_all.new.bytes) c.self.inside.base.items)) c.self.inside.logs c.take.new.self c.self.inside.places c.take_place.new.places c.args.stream is c.take.ensures.ranges c.take.ensures.deltas c.take.ensures.room c.take_place.ensures.left in
-    (seals_keep (area (kept_in c.self.inside.base.items c.self.inside.logs c.self.inside.places)) (area (kept_in (take c.self.inside.base.len (c.apply_all.new.bytes ++ drop (length c.apply_all.new.bytes) c.self.inside.base.items)) c.take.new.self c.take_place.new.places)) c.args.stream c.requires.stream c.self.invariant.shared sealed).1 ∙ ap (λ (k : Kept). standing (area k)) c.self.view_is
+    (seals_keep (area (kept_in c.self.inside.base.items c.self.inside.logs c.self.inside.places)) (area (kept_in (take c.self.inside.base.len (c.apply_all.new.bytes ++ drop (length c.apply_all.new.bytes) c.self.inside.base.items)) c.take.new.self c.take_place.new.places)) c.args.stream c.requires.stream c.self.invariant.shared sealed).1 ∙ ap (λ (k : AreaLists). standing (area k)) c.self.view_is

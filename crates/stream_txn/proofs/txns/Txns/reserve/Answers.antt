@@ -3,7 +3,7 @@ use Rattle.std.specs.Prelude.{Bool, true, is_some}
 use Rattle.std.proofs.lemmas.List.{map-set, get_or-set_same}
 use Rattle.file_bodies.specs.declared.batches.Sealed.{Sealed}
 use Rattle.stream_txn.proofs.Queue.{seen}
-use Rattle.stream_txn.specs.Kept.{Kept, placed}
+use Rattle.stream_txn.specs.Kept.{TxnLists, placed}
 use Rattle.stream_txn.specs.Space.{kept_in}
 use Rattle.stream_txn.proofs.Holding.{held_placed}
 use Rattle.stream_txn.proofs.txns.Txns.reserve.Goals as goal
@@ -28,7 +28,7 @@ returns-clause-ok c =
     let inside = kept_in c.self.inside.accounts c.self.inside.gave_blocks c.self.inside.gave_rows c.self.inside.ops c.self.inside.places c.self.inside.seals c.reserve.new.self.items in
     ap (λ (z : List Bool). record inside { places = z }) places
     ∙ ap (λ z. placed (kept_in c.self.inside.accounts c.self.inside.gave_blocks c.self.inside.gave_rows c.self.inside.ops c.self.inside.places c.self.inside.seals z) c.args.stream) c.in_ok-reserve.ensures.items
-    ∙ ap (λ (k : Kept). placed k c.args.stream) c.self.view_is
+    ∙ ap (λ (k : TxnLists). placed k c.args.stream) c.self.view_is
 
 pub returns-clause-there : goal.returns-clause-there
 returns-clause-there c =

@@ -7,7 +7,7 @@ use Rattle.std.proofs.lemmas.Result.{on_ok_weaker, on_err_weaker}
 use Rattle.tree_model.specs.declared.rows.Update.TheVariants.{Make}
 use Rattle.tree_model.specs.Updates.{apply, new_body}
 use Rattle.tree_model.specs.Tests.{applies}
-use Rattle.tree_model.specs.Nodes.{IsKept, on_node, entered}
+use Rattle.tree_model.specs.Nodes.{AreIndexed, on_node, entered}
 use Rattle.tree_model.proofs.Stays.{id_free, made, Made, on_both}
 use Rattle.tree_model.proofs.keeping.Tree.make.Goals as goal
 
@@ -29,7 +29,7 @@ pub invariant_of-self : goal.invariant_of-self
 invariant_of-self c =
     on_both c.put_below.result
     (on_ok_weaker c.put_below.result (λ made. made.kept) (after c))
-    (on_err_weaker c.put_below.result (λ is. subst IsKept (sym is) c.self.invariant) c.put_below.ensures.err)
+    (on_err_weaker c.put_below.result (λ is. subst AreIndexed (sym is) c.self.invariant) c.put_below.ensures.err)
 
 pub returns-clause-ok : goal.returns-clause-ok
 returns-clause-ok c =

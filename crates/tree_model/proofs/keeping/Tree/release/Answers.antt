@@ -3,7 +3,7 @@ use Rattle.std.specs.Prelude.{IsTrue}
 use Rattle.tree_model.specs.declared.rows.Update.TheVariants.{Release}
 use Rattle.tree_model.specs.Updates.{apply}
 use Rattle.tree_model.specs.Tests.{applies}
-use Rattle.tree_model.specs.Nodes.{IsKept, rows_in}
+use Rattle.tree_model.specs.Nodes.{AreIndexed, rows_in}
 use Rattle.tree_model.proofs.Changes.{after_release}
 use Rattle.tree_model.proofs.keeping.Tree.release.Goals as goal
 
@@ -12,7 +12,7 @@ invariant_of-self c =
     let m = c.self.inside.nodes in
     let u = Release c.args.id in
     let may : IsTrue (applies (rows_in m) u) = subst (λ t. IsTrue (applies t u)) (sym c.self.view_is) c.requires in
-    subst IsKept (sym c.take_out.ensures) (after_release m c.self.invariant c.args.id may).kept
+    subst AreIndexed (sym c.take_out.ensures) (after_release m c.self.invariant c.args.id may).kept
 
 pub returns : goal.returns
 returns c =

@@ -5,7 +5,7 @@ use Rattle.tree_model.specs.declared.rows.Update.TheVariants.{Resize}
 use Rattle.tree_model.specs.Updates.{apply}
 use Rattle.tree_model.specs.Tests.{applies}
 use Rattle.ccfs_base.specs.Contents.{resized}
-use Rattle.tree_model.specs.Nodes.{IsKept, rows_in, on_node, refilled_node}
+use Rattle.tree_model.specs.Nodes.{AreIndexed, rows_in, on_node, refilled_node}
 use Rattle.tree_model.proofs.Stays.{on_both}
 use Rattle.tree_model.proofs.Changes.{After, after_resize}
 use Rattle.tree_model.proofs.keeping.Tree.resize.Goals as goal
@@ -19,8 +19,8 @@ after c =
 pub invariant_of-self : goal.invariant_of-self
 invariant_of-self c =
     on_both c.resize.result
-    (on_ok_weaker c.resize.result (λ is. subst IsKept (sym is) (after c).kept) c.resize.ensures.ok)
-    (on_err_weaker c.resize.result (λ is. subst IsKept (sym is) c.self.invariant) c.resize.ensures.err)
+    (on_ok_weaker c.resize.result (λ is. subst AreIndexed (sym is) (after c).kept) c.resize.ensures.ok)
+    (on_err_weaker c.resize.result (λ is. subst AreIndexed (sym is) c.self.invariant) c.resize.ensures.err)
 
 pub returns-clause-ok : goal.returns-clause-ok
 returns-clause-ok c =

@@ -5,7 +5,7 @@ use Rattle.tree_model.specs.declared.rows.Update.TheVariants.{Write}
 use Rattle.tree_model.specs.Updates.{apply}
 use Rattle.tree_model.specs.Tests.{applies}
 use Rattle.ccfs_base.specs.Contents.{written}
-use Rattle.tree_model.specs.Nodes.{IsKept, rows_in, on_node, refilled_node}
+use Rattle.tree_model.specs.Nodes.{AreIndexed, rows_in, on_node, refilled_node}
 use Rattle.tree_model.proofs.Stays.{on_both}
 use Rattle.tree_model.proofs.Changes.{After, after_write}
 use Rattle.tree_model.proofs.keeping.Tree.write.Goals as goal
@@ -23,8 +23,8 @@ same c = ap (λ b. on_node (refilled_node (written c.args.off b)) c.self.inside.
 pub invariant_of-self : goal.invariant_of-self
 invariant_of-self c =
     on_both c.write_at.result
-    (on_ok_weaker c.write_at.result (λ is. subst IsKept (sym (is ∙ same c)) (after c).kept) c.write_at.ensures.ok)
-    (on_err_weaker c.write_at.result (λ is. subst IsKept (sym is) c.self.invariant) c.write_at.ensures.err)
+    (on_ok_weaker c.write_at.result (λ is. subst AreIndexed (sym (is ∙ same c)) (after c).kept) c.write_at.ensures.ok)
+    (on_err_weaker c.write_at.result (λ is. subst AreIndexed (sym is) c.self.invariant) c.write_at.ensures.err)
 
 pub returns-clause-ok : goal.returns-clause-ok
 returns-clause-ok c =

@@ -2,7 +2,7 @@ use Rattle.std.proofs.Common.{◌≡◌, ap, sym, ◌∙◌}
 use Rattle.std.specs.declared.option.Option.TheVariants.{None, Some}
 use Rattle.std.specs.FinMap as map
 use Rattle.std.specs.Cmp.{nat_cmp_total}
-use Rattle.tree_model.specs.Nodes.{Kept, without_entry, put_at}
+use Rattle.tree_model.specs.Nodes.{IndexedRow, without_entry, put_at}
 use Rattle.tree_model.proofs.MapView.{get_view, written_view}
 use Rattle.tree_model.proofs.nodes.Nodes.drop_entry.Goals as goal
 use Rattle.tree_model.proofs.nodes.Nodes.drop_entry.Goals.{in-Some, in_default}
@@ -12,7 +12,7 @@ returns c =
     let f = without_entry c.args.name.now in
     elim c.match-get_mut.branch [
       | in-Some w ↦
-          let was : Kept = w.in-Some.node.now in
+          let was : IndexedRow = w.in-Some.node.now in
           let there : map.get c.args.self.now c.args.dir ≡ Some was = sym (ap (λ z. map.get z c.args.dir) c.self.view_is) ∙ get_view nat_cmp_total c.self.inside.nodes.entries c.args.dir ∙ sym w.in-Some.ensures.value in
           let put = written_view nat_cmp_total map.nat_cmp-IsAntisymmetric c.self.inside.nodes (c.get_mut.follows.lender w.drop_entry.new.self) c.args.dir was w.drop_entry.new.self (sym w.in-Some.ensures.value) (c.get_mut.follows.holds w.drop_entry.new.self) in
           ap (λ z. map.from_entries z.nodes.entries) w.self-inside-is ∙ put ∙ ap (λ z. map.insert z c.args.dir w.drop_entry.new.self) c.self.view_is

@@ -4,7 +4,7 @@ use Rattle.std.specs.declared.option.Option.TheVariants.{None, Some}
 use Rattle.std.specs.FinMap as map
 use Rattle.std.specs.Cmp.{nat_cmp_total}
 use Rattle.std.proofs.lemmas.Result.{on_ok_weaker, on_err_weaker}
-use Rattle.tree_model.specs.Nodes.{Kept, entered, on_node, put_at}
+use Rattle.tree_model.specs.Nodes.{IndexedRow, entered, on_node, put_at}
 use Rattle.tree_model.proofs.MapView.{get_view, written_view, insert_same}
 use Rattle.tree_model.proofs.nodes.Nodes.enter.Goals as goal
 use Rattle.tree_model.proofs.nodes.Nodes.enter.Goals.{in-Some, in-None}
@@ -14,7 +14,7 @@ returns-clause-ok c =
     let f = entered c.args.name c.args.id in
     elim c.match-get_mut.branch [
       | in-Some w ↦
-          let was : Kept = w.in-Some.node.now in
+          let was : IndexedRow = w.in-Some.node.now in
           let there : map.get c.args.self.now c.args.dir ≡ Some was = sym (ap (λ z. map.get z c.args.dir) c.self.view_is) ∙ get_view nat_cmp_total c.self.inside.nodes.entries c.args.dir ∙ sym w.in-Some.ensures.value in
           let put = written_view nat_cmp_total map.nat_cmp-IsAntisymmetric c.self.inside.nodes (c.get_mut.follows.lender w.enter.new.self) c.args.dir was w.enter.new.self (sym w.in-Some.ensures.value) (c.get_mut.follows.holds w.enter.new.self) in
           subst (λ r. OnOk r (map.from_entries c.match-get_mut.self-inside.nodes.entries ≡ on_node f c.args.self.now c.args.dir)) (sym w.result-is)
@@ -32,7 +32,7 @@ pub returns-clause-err : goal.returns-clause-err
 returns-clause-err c =
     elim c.match-get_mut.branch [
       | in-Some w ↦
-          let was : Kept = w.in-Some.node.now in
+          let was : IndexedRow = w.in-Some.node.now in
           let there : map.get c.args.self.now c.args.dir ≡ Some was = sym (ap (λ z. map.get z c.args.dir) c.self.view_is) ∙ get_view nat_cmp_total c.self.inside.nodes.entries c.args.dir ∙ sym w.in-Some.ensures.value in
           let put = written_view nat_cmp_total map.nat_cmp-IsAntisymmetric c.self.inside.nodes (c.get_mut.follows.lender w.enter.new.self) c.args.dir was w.enter.new.self (sym w.in-Some.ensures.value) (c.get_mut.follows.holds w.enter.new.self) in
           subst (λ r. OnErr r (map.from_entries c.match-get_mut.self-inside.nodes.entries ≡ c.args.self.now)) (sym w.result-is)

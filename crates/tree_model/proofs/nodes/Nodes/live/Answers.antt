@@ -3,7 +3,7 @@ use Rattle.std.specs.FinMap as map
 use Rattle.std.specs.List.{sum_by}
 use Rattle.std.specs.Cmp.{nat_cmp_total}
 use Rattle.ccfs_base.specs.Limits.{blocks}
-use Rattle.tree_model.specs.Nodes.{Kept}
+use Rattle.tree_model.specs.Nodes.{IndexedRow}
 use Rattle.tree_model.specs.Weights.{body_bytes}
 use Rattle.tree_model.proofs.MapView.{entries_view}
 use Rattle.tree_model.proofs.nodes.Nodes.live.Goals as goal
@@ -15,6 +15,6 @@ loop-node-init c =
     let size : length c.into_iter-node-iterator.result ≡ map.len c.args.self.now = ap length (held ∙ kept) ∙ sym (map.len-entries c.args.self.now) in
     let few : map.len c.args.self.now < 2 ^ 32 = c.requires in
     record {
-      sum = zero-add _ ∙ ap (λ (l : List (ℕ × Kept)). sum_by (λ (e : ℕ × Kept). blocks (length (body_bytes e.1.0.body))) l) (held ∙ kept);
+      sum = zero-add _ ∙ ap (λ (l : List (ℕ × IndexedRow)). sum_by (λ (e : ℕ × IndexedRow). blocks (length (body_bytes e.1.0.body))) l) (held ∙ kept);
       few = omega arith;
     }

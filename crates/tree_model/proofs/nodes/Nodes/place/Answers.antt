@@ -2,7 +2,7 @@ use Rattle.std.proofs.Common.{◌≡◌, ap, sym, ◌∙◌}
 use Rattle.std.specs.declared.option.Option.TheVariants.{None, Some}
 use Rattle.std.specs.FinMap as map
 use Rattle.std.specs.Cmp.{nat_cmp_total}
-use Rattle.tree_model.specs.Nodes.{Kept, placed_node, put_at}
+use Rattle.tree_model.specs.Nodes.{IndexedRow, placed_node, put_at}
 use Rattle.tree_model.proofs.MapView.{get_view, written_view}
 use Rattle.tree_model.proofs.nodes.Nodes.place.Goals as goal
 use Rattle.tree_model.proofs.nodes.Nodes.place.Goals.{in-Some, in_default}
@@ -12,7 +12,7 @@ returns c =
     let f = placed_node c.args.dir c.args.name in
     elim c.match-get_mut.branch [
       | in-Some w ↦
-          let was : Kept = w.in-Some.node.now in
+          let was : IndexedRow = w.in-Some.node.now in
           let there : map.get c.args.self.now c.args.id ≡ Some was = sym (ap (λ z. map.get z c.args.id) c.self.view_is) ∙ get_view nat_cmp_total c.self.inside.nodes.entries c.args.id ∙ sym w.in-Some.ensures.value in
           let put = written_view nat_cmp_total map.nat_cmp-IsAntisymmetric c.self.inside.nodes (c.get_mut.follows.lender w.place.new.self) c.args.id was w.place.new.self (sym w.in-Some.ensures.value) (c.get_mut.follows.holds w.place.new.self) in
           ap (λ z. map.from_entries z.nodes.entries) w.self-inside-is ∙ put ∙ ap (λ z. map.insert z c.args.id w.place.new.self) c.self.view_is

@@ -5,7 +5,7 @@ use Rattle.std.specs.FinMap as map
 use Rattle.std.specs.Cmp.{nat_cmp_total}
 use Rattle.std.proofs.lemmas.Result.{on_ok_weaker, on_err_weaker}
 use Rattle.ccfs_base.specs.Contents.{written}
-use Rattle.tree_model.specs.Nodes.{Kept, refilled_node, on_node, put_at}
+use Rattle.tree_model.specs.Nodes.{IndexedRow, refilled_node, on_node, put_at}
 use Rattle.tree_model.proofs.MapView.{get_view, written_view, insert_same}
 use Rattle.tree_model.proofs.nodes.Nodes.write_at.Goals as goal
 use Rattle.tree_model.proofs.nodes.Nodes.write_at.Goals.{in-Some, in-None}
@@ -15,7 +15,7 @@ returns-clause-ok c =
     let f = refilled_node (written c.args.off c.args.bytes.now) in
     elim c.match-get_mut.branch [
       | in-Some w ↦
-          let was : Kept = w.in-Some.node.now in
+          let was : IndexedRow = w.in-Some.node.now in
           let there : map.get c.args.self.now c.args.id ≡ Some was = sym (ap (λ z. map.get z c.args.id) c.self.view_is) ∙ get_view nat_cmp_total c.self.inside.nodes.entries c.args.id ∙ sym w.in-Some.ensures.value in
           let put = written_view nat_cmp_total map.nat_cmp-IsAntisymmetric c.self.inside.nodes (c.get_mut.follows.lender w.write_at.new.self) c.args.id was w.write_at.new.self (sym w.in-Some.ensures.value) (c.get_mut.follows.holds w.write_at.new.self) in
           subst (λ r. OnOk r (map.from_entries c.match-get_mut.self-inside.nodes.entries ≡ on_node f c.args.self.now c.args.id)) (sym w.result-is)
@@ -33,7 +33,7 @@ pub returns-clause-err : goal.returns-clause-err
 returns-clause-err c =
     elim c.match-get_mut.branch [
       | in-Some w ↦
-          let was : Kept = w.in-Some.node.now in
+          let was : IndexedRow = w.in-Some.node.now in
           let there : map.get c.args.self.now c.args.id ≡ Some was = sym (ap (λ z. map.get z c.args.id) c.self.view_is) ∙ get_view nat_cmp_total c.self.inside.nodes.entries c.args.id ∙ sym w.in-Some.ensures.value in
           let put = written_view nat_cmp_total map.nat_cmp-IsAntisymmetric c.self.inside.nodes (c.get_mut.follows.lender w.write_at.new.self) c.args.id was w.write_at.new.self (sym w.in-Some.ensures.value) (c.get_mut.follows.holds w.write_at.new.self) in
           subst (λ r. OnErr r (map.from_entries c.match-get_mut.self-inside.nodes.entries ≡ c.args.self.now)) (sym w.result-is)

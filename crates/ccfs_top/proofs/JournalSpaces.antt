@@ -17,7 +17,7 @@ use Rattle.batch_ranges.specs.Ranges.{size_of, batch_size}
 use Rattle.front_laws.specs.Kept.{IsKept}
 use Rattle.front_laws.specs.Laws.{record_size}
 use Rattle.front_core.specs.Fronts.{Fronted, seals_of}
-use Rattle.ccfs_top.specs.Taken.{recs_at, journal_for, Room, room_in, used_by, taken_by, taken_from, size_at, HasTaken}
+use Rattle.ccfs_top.specs.JournalSpace.{recs_at, journal_for, SpaceUsed, space_used, used_by, taken_by, taken_from, size_at, HasTaken}
 use Rattle.ccfs_top.specs.Sessions.{cut_tree}
 use Rattle.front_laws.proofs.BatchSizes.{batches_have_their_size}
 use Rattle.front_laws.proofs.Covers.{batches_are_covered}
@@ -90,26 +90,26 @@ last_for j bytes n last = either (fits j bytes)
 
 -- ---- what is taken
 
-room_for : (j : Journal) (bytes : ℕ) (fit : Bool) → room_in (cond fit j empty) ≡ cond fit (room_in j) (room_in empty)
+room_for : (j : Journal) (bytes : ℕ) (fit : Bool) → space_used (cond fit j empty) ≡ cond fit (space_used j) (space_used empty)
 room_for j bytes true = refl
 room_for j bytes false = refl
 
-pub room_left : (j j' : Journal) (b : Batch) (bytes : ℕ) → j' ≡ with_batch (journal_for j (length (batch_bytes b))) b → length (batch_bytes b) ≡ bytes → room_in j' ≡ taken_by (room_in j) bytes
+pub room_left : (j j' : Journal) (b : Batch) (bytes : ℕ) → j' ≡ with_batch (journal_for j (length (batch_bytes b))) b → length (batch_bytes b) ≡ bytes → space_used j' ≡ taken_by (space_used j) bytes
 room_left j j' b bytes is long =
-    ap room_in is ∙ ap (λ (z : Room). used_by z (length (batch_bytes b))) (room_for j (length (batch_bytes b)) (fits j (length (batch_bytes b)))) ∙ ap (taken_by (room_in j)) long
+    ap space_used is ∙ ap (λ (z : SpaceUsed). used_by z (length (batch_bytes b))) (room_for j (length (batch_bytes b)) (fits j (length (batch_bytes b)))) ∙ ap (taken_by (space_used j)) long
 
 -- no batch
 pub none_taken : (front : Fronted) (k : ℕ) (h : Half) → HasTaken front k k h h
 none_taken front k h =
     let none : k - k ≡ 0 = omega arith in
-    ap (taken_from (room_in (journal_of h)) (size_at front) k) (sym none)
+    ap (taken_from (space_used (journal_of h)) (size_at front) k) (sym none)
 
 -- one batch more
-pub one_taken : (front : Fronted) (k most : ℕ) (h mid new : Half) → k ≤ most → HasTaken front k most h mid → room_in (journal_of new) ≡ taken_by (room_in (journal_of mid)) (size_at front most)
+pub one_taken : (front : Fronted) (k most : ℕ) (h mid new : Half) → k ≤ most → HasTaken front k most h mid → space_used (journal_of new) ≡ taken_by (space_used (journal_of mid)) (size_at front most)
     → HasTaken front k (most + 1) h new
 one_taken front k most h mid new le so_far one =
     let more : most + 1 - k ≡ suc (most - k) = omega (arith, le) in
     let at : most ≡ k + (most - k) = omega (arith, le) in
-    one ∙ ap (λ (z : Room). taken_by z (size_at front most)) so_far
-    ∙ ap (λ (z : ℕ). taken_by (taken_from (room_in (journal_of h)) (size_at front) k (most - k)) (size_at front z)) at
-    ∙ ap (taken_from (room_in (journal_of h)) (size_at front) k) (sym more)
+    one ∙ ap (λ (z : SpaceUsed). taken_by z (size_at front most)) so_far
+    ∙ ap (λ (z : ℕ). taken_by (taken_from (space_used (journal_of h)) (size_at front) k (most - k)) (size_at front z)) at
+    ∙ ap (taken_from (space_used (journal_of h)) (size_at front) k) (sym more)

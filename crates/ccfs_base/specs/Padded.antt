@@ -10,7 +10,7 @@ abbrev pub shown : Inside → List ℕ
 shown n = take n.len n.bytes
 
 -- at most 64 bytes, which are a name's or none, and zeros behind them
-pub record IsKept (n : Inside) : Type 0 where
+pub record IsPadded (n : Inside) : Type 0 where
   pub short : n.len ≤ 64
   pub rest : drop n.len n.bytes ≡ replicate (64 - n.len) 0
   pub size : length n.bytes ≡ 64
@@ -21,7 +21,7 @@ abbrev pub kept : List ℕ → Inside
 kept t = record { bytes = t ++ replicate (64 - length t) 0; len = length t }
 
 -- the fields can be told from the bytes that they show
-pub kept_ok : (n : Inside) → IsKept n → kept (shown n) ≡ n
+pub kept_ok : (n : Inside) → IsPadded n → kept (shown n) ≡ n
 kept_ok n k =
     let l : length (take n.len n.bytes) ≡ n.len = length-take-le n.len n.bytes (subst (λ z. n.len ≤ z) (sym k.size) k.short) in
     let same : take n.len n.bytes ++ replicate (64 - length (take n.len n.bytes)) 0 ≡ n.bytes

@@ -5,7 +5,7 @@ use Rattle.stream_cuts.specs.Cuts.{batch}
 use Rattle.ccfs_base.specs.declared.records.Rec.{Rec}
 use Rattle.gate_journal.specs.declared.batches.Batch.{Batch}
 use Rattle.gate_journal.specs.declared.halves.Half.{Half}
-use Rattle.gate_journal.specs.Places.{records_size}
+use Rattle.gate_journal.specs.Offsets.{records_size}
 use Rattle.gate_journal.specs.Batches.{batch_bytes}
 use Rattle.gate_journal.specs.Journal.{Journal}
 use Rattle.gate_journal.specs.Halves.{journal_of, fits, with_batch}
@@ -42,29 +42,29 @@ HasOneMore old b new = journal_of new ≡ with_batch (journal_for (journal_of ol
 
 -- What a half has used up: so many gates, so many bytes of its record area, and whether a gate behind the first closed one
 -- is open, so that nothing has room any more.
-pub record Room : Type 0 where
+pub record SpaceUsed : Type 0 where
   pub gates : ℕ
   pub bytes : ℕ
   pub barred : Bool
 
 -- what a journal has used up
-abbrev pub room_in : Journal → Room
-room_in j = record { gates = j.count; bytes = j.used; barred = j.behind }
+abbrev pub space_used : Journal → SpaceUsed
+space_used j = record { gates = j.count; bytes = j.used; barred = j.behind }
 
 -- whether a batch of so many bytes has room: a closed gate, and so many bytes that aren't used
-abbrev pub has_room : Room → ℕ → Bool
-has_room room bytes = nat_lt room.gates 4096 && (not room.barred && nat_le (room.bytes + bytes) records_size)
+abbrev pub has_space : SpaceUsed → ℕ → Bool
+has_space room bytes = nat_lt room.gates 4096 && (not room.barred && nat_le (room.bytes + bytes) records_size)
 
 -- the room once that batch is committed
-abbrev pub used_by : Room → ℕ → Room
+abbrev pub used_by : SpaceUsed → ℕ → SpaceUsed
 used_by room bytes = record { gates = room.gates + 1; bytes = room.bytes + bytes; barred = room.barred }
 
 -- the same where a checkpoint comes first just if it has no room. Where 524,200 bytes are used, behind a batch of 100 these 100 are
-abbrev pub taken_by : Room → ℕ → Room
-taken_by room bytes = used_by (cond (has_room room bytes) room (room_in empty)) bytes
+abbrev pub taken_by : SpaceUsed → ℕ → SpaceUsed
+taken_by room bytes = used_by (cond (has_space room bytes) room (space_used empty)) bytes
 
 -- so for batches of these sizes by number, so many of them from the one with number k on, one behind the other
-abbrev pub taken_from : Room → (ℕ → ℕ) → ℕ → ℕ → Room
+abbrev pub taken_from : SpaceUsed → (ℕ → ℕ) → ℕ → ℕ → SpaceUsed
 taken_from room sizes k zero = room
 taken_from room sizes k (suc more) = taken_by (taken_from room sizes k more) (sizes (k + more))
 
@@ -75,4 +75,4 @@ size_at front k = 36 + sum_by (λ e. update_size e.1.0) (batch (charged_in front
 
 -- A half has taken the batches of a front that take it from so many seals to so many, with no checkpoint but where one didn't fit.
 abbrev pub HasTaken : Fronted → ℕ → ℕ → Half → Half → Type 0
-HasTaken front k most old new = room_in (journal_of new) ≡ taken_from (room_in (journal_of old)) (size_at front) k (most - k)
+HasTaken front k most old new = space_used (journal_of new) ≡ taken_from (space_used (journal_of old)) (size_at front) k (most - k)

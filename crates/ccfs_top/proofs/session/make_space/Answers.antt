@@ -2,9 +2,9 @@ use Rattle.std.proofs.Common.{length}
 use Rattle.gate_journal.specs.Batches.{batch_bytes}
 use Rattle.gate_journal.specs.Halves.{size_of, journal_of}
 use Rattle.atomic_volume.specs.Held.{contents_by}
-use Rattle.ccfs_top.proofs.Rooms.{stays_for, emptied_for, is_full}
+use Rattle.ccfs_top.proofs.JournalSpaces.{stays_for, emptied_for, is_full}
 use Rattle.ccfs_top.proofs.Leaving.{stays_moved}
-use Rattle.ccfs_top.proofs.session.make_room.Goals as goal
+use Rattle.ccfs_top.proofs.session.make_space.Goals as goal
 
 pub returns-then-accepts-clause-journal : goal.returns-then-accepts-clause-journal
 returns-then-accepts-clause-journal g c =

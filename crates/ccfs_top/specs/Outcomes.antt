@@ -20,7 +20,7 @@ use Rattle.recovery.specs.declared.fault.OpenFault.TheVariants as open_fault
 use Rattle.recovery.specs.Recovering.{shown_for_now}
 use Rattle.ccfs_top.specs.declared.stop.Stop.{Stop}
 use Rattle.ccfs_top.specs.Found.{IsFound}
-use Rattle.ccfs_top.specs.Images.{Image, IsImage, Finding, Holds, Spoilt, Unread, Finds, RecoversTo}
+use Rattle.ccfs_top.specs.Images.{Image, IsImage, Finding, Good, Spoilt, Unread, Finds, RecoversTo}
 use Rattle.ccfs_top.specs.Runs.{Expected, further, ran, calls_in, expected, over, printed}
 use Rattle.ccfs_top.specs.Ends.{EndsWith, Wrote, joined}
 use Rattle.ccfs_top.specs.Stops.{Decides, Grew, status_of}
@@ -42,7 +42,7 @@ first_history image calls i = history_to image.sizes (start image.tree) calls i
 -- What a session that opened leaves, where so many whole reply lines were written. At every moment a crash leaves what it
 -- might have left at the start, or an image within the history of the calls up to the one behind those lines. In the end it
 -- leaves one with each sync that those lines acknowledge.
-pub record Kept {X : Type 0} (d : Ghosts X) (old new : X) (image : Image) (calls : List Call) (lines : ℕ) : Type 0 where
+pub record CrashSafe {X : Type 0} (d : Ghosts X) (old new : X) (image : Image) (calls : List Call) (lines : ℕ) : Type 0 where
   pub ever : LeavesBy d old new (λ c. d.may_leave old c ⊎ Within image (first_history image calls (lines + 1)) 0 c)
   pub now : (c : List ℕ) → d.may_leave new c → Within image (first_history image calls (lines + 1)) (durable (first_history image calls lines)) c
 
@@ -84,7 +84,7 @@ pub record IsShut {X : Type 0} (d : Ghosts X) (old new : X) (fault : OpenFault) 
 
 -- what a run leaves that ends with this status, by what it found; so many whole reply lines were written
 abbrev pub Leaves : {X : Type 0} → Ghosts X → X → X → List Call → List ℕ → Finding Image → ℕ → ℕ → Type 0
-Leaves d old new calls found (Holds image) code lines = Kept d old new image calls lines
+Leaves d old new calls found (Good image) code lines = CrashSafe d old new image calls lines
 Leaves d old new calls found (Spoilt kind block) code lines = Unmoved d old new found
 Leaves d old new calls found Unread code lines = Unopened d old new found code
 
@@ -99,7 +99,7 @@ pub record Halts (e : Expected) (stop : Stop) (Left : ℕ → Type 0) (sink_tell
 -- A run over an image that came to its end, with this number.
 pub record Done {X : Type 0} (d : Ghosts X) (old new : X) (calls : List Call) (image : Image) (number : ℕ) (sink_tells : Type 0) (text0 text1 : List ℕ) : Type 0 where
   pub batches : number ≡ (ran image calls).batches
-  pub kept : Kept d old new image calls (length (ran image calls).replies)
+  pub kept : CrashSafe d old new image calls (length (ran image calls).replies)
   pub text : sink_tells → text1 ≡ text0 ++ (joined (ran image calls).replies ++ (ran image calls).last)
 
 -- The same over the image that was found on a disk.

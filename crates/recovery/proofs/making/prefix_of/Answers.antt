@@ -1,7 +1,7 @@
 use Rattle.std.proofs.Common.{List, ℕ, length, refl, ◌∙◌, ap}
 use Rattle.block_layout.specs.Super.{super_bytes}
 use Rattle.recovery.proofs.Written.{filled_up}
-use Rattle.recovery.proofs.making.front_of.Goals as goal
+use Rattle.recovery.proofs.making.prefix_of.Goals as goal
 
 pub returns : goal.returns
 returns c =

@@ -9,7 +9,7 @@ use Rattle.gate_journal.proofs.NumberBytes.{IsByte}
 
 -- f reads a from the front of the bytes, whatever follows it. The front is as long as the bytes that spell a, and it is
 -- just these where each byte is below 256; then Q holds, and P holds always.
-pub record Front {A : Type 0} (f : List ℕ → Option (A × List ℕ)) (bytes : List ℕ) (a : A) (rest spelt : List ℕ) (P Q : Type 0) : Type 0 where
+pub record Prefix {A : Type 0} (f : List ℕ → Option (A × List ℕ)) (bytes : List ℕ) (a : A) (rest spelt : List ℕ) (P Q : Type 0) : Type 0 where
   pub front : List ℕ
   pub whole : bytes ≡ front ++ rest
   pub again : (other : List ℕ) → f (front ++ other) ≡ Some (a, other)

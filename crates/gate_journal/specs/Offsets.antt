@@ -6,8 +6,8 @@ abbrev pub gates_start : ℕ → ℕ
 gates_start half = 4096 * (2 + half)
 
 -- the gate of the batch with this number from 0: 8,193 for batch 1 of half 0
-abbrev pub gate_place : ℕ → ℕ → ℕ
-gate_place half batch = gates_start half + batch
+abbrev pub gate_offset : ℕ → ℕ → ℕ
+gate_offset half batch = gates_start half + batch
 
 -- the record area of a half: from block 4 for half 0, and from block 132 for half 1
 abbrev pub records_start : ℕ → ℕ
