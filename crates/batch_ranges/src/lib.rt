@@ -9,6 +9,3 @@ pub mod laws;
 pub mod metadata;
 
 pub use metadata::Metadata;
-
-#[cfg(test)]
-mod tests;

@@ -16,6 +16,3 @@ mod superblock;
 pub use geometry::{BLOCK_SIZE, BadSize, Geometry, VOLUME_START, Which};
 pub use laws::{read_is_written, sizes_tell_the_geometry, written_is_read};
 pub use superblock::{BadSuper, SuperField, decode_super, encode_super};
-
-#[cfg(test)]
-mod tests;

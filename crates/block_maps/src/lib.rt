@@ -22,6 +22,3 @@ pub use uses::{block_count, new_count, pages, place_of, use_at};
 
 /// How many pages of a file its own record points to.
 pub const DIRECT_PAGES: u32 = 24;
-
-#[cfg(test)]
-mod tests;

@@ -5,14 +5,3 @@
 #![tactic(auto)]
 
 pub mod laws;
-
-#[cfg(test)]
-mod tests {
-    use super::laws::{carried_volumes_stand, sound_volumes_are_opened};
-
-    #[test]
-    fn the_laws_hold(_rt: HostRuntime) {
-        carried_volumes_stand();
-        sound_volumes_are_opened();
-    }
-}

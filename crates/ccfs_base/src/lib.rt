@@ -33,6 +33,3 @@ pub use streams::{STREAMS, has_bit, with_bit};
 
 /// Want of memory. The call that answers it changed nothing.
 pub type NoMemory = std::alloc::AllocError;
-
-#[cfg(test)]
-mod tests;

@@ -16,6 +16,3 @@ pub use answering::{
     answer, answer_list, answer_make, answer_rename, answer_rmdir, answer_stat, answer_unlink,
 };
 pub use views::{Answered, View};
-
-#[cfg(test)]
-mod answers_tests;

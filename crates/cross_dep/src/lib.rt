@@ -9,6 +9,3 @@ mod marks;
 mod places;
 
 pub use book::KeyBook;
-
-#[cfg(test)]
-mod tests;

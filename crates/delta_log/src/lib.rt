@@ -11,6 +11,3 @@ mod log;
 
 pub use apply::apply_rec;
 pub use log::DeltaLog;
-
-#[cfg(test)]
-mod tests;

@@ -15,6 +15,3 @@ mod slots;
 pub use laws::{found_as_in_a_map, listed_as_in_a_map, only_fields_are_read, written_is_read};
 pub use slot::{SLOT_SIZE, Slot, SlotFault, decode_slot, encode_slot};
 pub use slots::Slots;
-
-#[cfg(test)]
-mod tests;

@@ -14,6 +14,3 @@ mod maps;
 
 pub use laws::{a_used_item_is_not_counted, none_is_free_where_all_are_used};
 pub use maps::BitMap;
-
-#[cfg(test)]
-mod tests;

@@ -18,10 +18,3 @@ mod state;
 
 pub use fault::ActFault;
 pub use front::Front;
-
-#[cfg(test)]
-mod free_tests;
-#[cfg(test)]
-mod front_tests;
-#[cfg(test)]
-mod logging_tests;

@@ -20,10 +20,3 @@ pub mod writing;
 pub use batches::{Batch, Range, Ranges};
 pub use faults::{JournalFault, LoadFault};
 pub use halves::Half;
-
-#[cfg(test)]
-mod append_tests;
-#[cfg(test)]
-mod load_tests;
-#[cfg(test)]
-mod tests;

@@ -28,8 +28,3 @@ pub use chain::first_bad;
 pub use inodes::Inodes;
 pub use kinds::{BadImage, BadKind, CheckFault};
 pub use placing::{Placed, check};
-
-#[cfg(test)]
-mod placing_tests;
-#[cfg(test)]
-mod tests;

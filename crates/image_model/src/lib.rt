@@ -28,6 +28,3 @@ pub use check::{Check, Limits};
 pub use first::{failure, first_failure};
 pub use pointer::Pointer;
 pub use rows::row_at;
-
-#[cfg(test)]
-mod tests;

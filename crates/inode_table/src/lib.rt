@@ -15,6 +15,3 @@ mod records;
 pub use attrs::{Attr, BadKind, Kind, decode_attr, encode_attr};
 pub use laws::{read_is_written, written_is_read};
 pub use records::{RECORD_SIZE, record_block, record_offset};
-
-#[cfg(test)]
-mod tests;

@@ -17,6 +17,3 @@ pub use fault::PlanFault;
 pub use laws::{least_is_least, lengths_follow};
 pub use lengths::{inode_of, length_by};
 pub use plans::plan;
-
-#[cfg(test)]
-mod tests;

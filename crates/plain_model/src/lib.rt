@@ -9,8 +9,6 @@ mod calling;
 mod charging;
 mod commands;
 mod cutting;
-#[cfg(test)]
-mod cutting_tests;
 mod files;
 mod finding;
 mod keeping;

@@ -8,6 +8,3 @@
 mod log;
 
 pub use log::{RangeLog, have_common};
-
-#[cfg(test)]
-mod tests;

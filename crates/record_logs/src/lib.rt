@@ -7,6 +7,3 @@
 mod logs;
 
 pub use logs::RecordLogs;
-
-#[cfg(test)]
-mod tests;

@@ -8,22 +8,14 @@
 
 mod answers;
 mod commands;
-#[cfg(test)]
-mod data_tests;
 mod data_words;
 mod grammar;
-#[cfg(test)]
-mod grammar_tests;
 mod lines;
 mod numbers;
 mod pictures;
 mod reading;
-#[cfg(test)]
-mod round_tests;
 mod scripts;
 mod spelling;
-#[cfg(test)]
-mod tests;
 mod texts;
 mod verbs;
 mod words;

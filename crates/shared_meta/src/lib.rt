@@ -13,6 +13,3 @@ mod spots;
 mod steps;
 
 pub use meta::SharedMeta;
-
-#[cfg(test)]
-mod tests;

@@ -12,6 +12,3 @@ mod txns;
 mod updates;
 
 pub use txns::Txns;
-
-#[cfg(test)]
-mod tests;

@@ -82,21 +82,3 @@ pub fn syncs_keep_what_they_are_for()
 pub fn transactions_are_light()
     ensures { TransactionsAreLight }
 {}
-
-#[cfg(test)]
-mod tests {
-    use super::*;
-
-    #[test]
-    fn the_laws_hold_of_trees(_rt: HostRuntime) {
-        cuts_are_closed();
-        kept_updates_apply();
-        longer_histories_keep();
-        the_next_cut_is_one_batch_on();
-        cuts_are_trees();
-        a_changed_file_has_its_bytes();
-        syncs_keep_what_they_are_for();
-        transactions_are_light();
-        stream_cuts::kept_apply::<Trees>();
-    }
-}

@@ -13,8 +13,6 @@ mod node;
 mod nodes;
 mod picturing;
 mod rows;
-#[cfg(test)]
-mod tests;
 mod updating;
 mod walking;
 

@@ -17,10 +17,6 @@ mod front;
 mod naming;
 mod plays;
 mod seats;
-#[cfg(test)]
-mod tests;
-#[cfg(test)]
-mod toys;
 mod turns;
 mod view;
 mod waits;

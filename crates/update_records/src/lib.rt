@@ -12,6 +12,3 @@ pub mod laws;
 pub mod records;
 
 pub use records::records_of;
-
-#[cfg(test)]
-mod records_tests;

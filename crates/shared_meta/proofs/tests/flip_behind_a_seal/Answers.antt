@@ -1,5 +1,0 @@
-use Rattle.std.proofs.Common.{true}
-use Rattle.shared_meta.proofs.tests.flip_behind_a_seal.Goals as goal
-
-pub flip-requires : goal.flip-requires
-flip-requires c = c.may_flip.ensures.forth c.if-not-may_flip.false true
