@@ -7,9 +7,10 @@ use Rattle.disk_model.proofs.Runs.{elapses_join}
 use Rattle.gate_journal.specs.Runs.{Quiet}
 use Rattle.atomic_volume.specs.Opening.{Contents}
 use Rattle.recovery.specs.Opens.{Finds}
-use Rattle.recovery.specs.Recovering.{recovered_for_now}
+use Rattle.recovery.specs.Recovering.{recovered_for_now, shown_for_now}
 use Rattle.ccfs_top.proofs.Opened.{kept_opened}
 use Rattle.script_text.specs.declared.scripts.Call.{Call}
+use Rattle.tree_model.specs.declared.picturing.Item.{Item}
 use Rattle.recovery.specs.declared.fault.OpenFault.{OpenFault}
 use Rattle.recovery.specs.declared.fault.OpenFault.TheVariants as open_fault
 use Rattle.recovery.specs.Bad.{Says}
@@ -104,6 +105,12 @@ kept_then d old mid new image calls lines counts_now kept quiet = record {
   now = λ c may. kept.now c (quiet.images.each c (counts_now new (d.moment mid) c quiet.images.time.later may));
 }
 
+-- and shows what it showed
+pub shown_then : {X : Type 0} (d : Ghosts X) (mid new : X) (p : ℕ × List Item)
+    → ((x : X) (t : ℕ) (c : List ℕ) → t ≤ d.moment x → d.may_leave x c → d.left_since x t c)
+    → ((c : List ℕ) → d.may_leave mid c → shown_for_now c ≡ Some p) → Quiet d mid new → (c : List ℕ) → d.may_leave new c → shown_for_now c ≡ Some p
+shown_then d mid new p counts_now shows quiet c may = shows c (quiet.images.each c (counts_now new (d.moment mid) c quiet.images.time.later may))
+
 -- ---- the whole run
 
 -- one whose tree was not written to its end
@@ -131,6 +138,7 @@ module _ {X : Type 0} (d : Ghosts X) (old mid new : X) (calls : List Call) (imag
     done = record {
       batches = done.batches;
       kept = kept_opened d old mid new image calls (length (ran image calls).replies) home small found each done.kept;
+      exact = done.exact;
       text = done.text;
     };
   }

@@ -15,5 +15,6 @@ pub mod Keeping
 pub mod Going
 pub mod Finishing
 pub mod Closing
+pub mod Statuses
 pub mod Shelling
 pub mod Opened

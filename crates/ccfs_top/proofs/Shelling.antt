@@ -14,10 +14,11 @@ use Rattle.ccfs_top.specs.declared.stop.Stop.TheVariants.{Usage, Long, BadLine, 
 use Rattle.ccfs_top.specs.Asked.{Asked, Mkfs, Run, Tree, IsStatusOf}
 use Rattle.ccfs_top.specs.Ends.{EndsWith, IsEarly, IsMadeStatus, IsTreeStatus, Wrote}
 use Rattle.ccfs_top.specs.Images.{Image, Finding, Good, Spoilt, Unread}
-use Rattle.ccfs_top.specs.Outcomes.{IsDiskEnd, CrashSafe, Leaves, Halts, DoneOn, HaltsOn, Ran, IsNew}
+use Rattle.ccfs_top.specs.Outcomes.{IsDiskEnd, CrashSafe, Leaves, Halts, DoneOn, HaltsOn, Ran, IsNew, ShowsFinal}
 use Rattle.ccfs_top.specs.Runs.{Expected, IsReady, alone, ran, over, over_calls, over_script, expected, calls_in}
 use Rattle.ccfs_top.specs.Stops.{Told, SaidOf, status_of}
 use Rattle.ccfs_top.proofs.Closing.{OfScript, Refused, script_decides, script_grew, plain_expected, expected_ready, ends_with, ends_done, wrote_stop, wrote_done}
+use Rattle.ccfs_top.proofs.Statuses.{never_zero}
 
 -- ---- a script that is refused
 
@@ -90,6 +91,7 @@ ran_whole d old new script calls number T g text0 text1 ready on =
       lines = length e.replies;
       ends = subst (λ (z : Expected). EndsWith z (length e.replies) 0 number) (sym same) (ends_done e number refl on.done.batches);
       leaves = subst (λ (z : List Call). CrashSafe d old new on.image z (length e.replies)) (sym (ap calls_in ready.in_grammar)) on.done.kept;
+      exact = λ _. subst (λ (z : List Call). ShowsFinal d new on.image z) (sym (ap calls_in ready.in_grammar)) on.done.exact;
       wrote = λ told. subst (λ (z : Expected). Wrote z g (length e.replies) 0 text0 text1) (sym same) (wrote_done e g text0 text1 refl (on.done.text told));
     }
 
@@ -107,6 +109,7 @@ ran_stopped d old kept new script s code number T f g text0 mid text1 on same no
       lines = halts.lines;
       ends = ends_with e s halts.lines code number (plain_expected script on.seen) halts.decides told halts.few no_number;
       leaves = subst (λ x. Leaves d old x calls on.found on.seen code halts.lines) (sym same) (told_leaves d old kept calls on.found on.seen s code halts.lines told halts.leaves);
+      exact = λ zero. absurd (never_zero s code told zero);
       wrote = λ tells. wrote_stop e s halts.lines code f g text0 mid text1 halts.decides (halts.grew tells) halts.few map rose (said tells);
     }
 

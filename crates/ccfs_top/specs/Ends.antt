@@ -98,3 +98,7 @@ IsEarly code = (1 ≤ code) × (code ≤ 5)
 -- those by which a script is refused: a line that isn't built, one that isn't a command, or too many bytes
 abbrev pub IsRefusal : ℕ → Type 0
 IsRefusal code = (code ≡ 1) ⊎ (code ≡ 3) ⊎ (code ≡ 4)
+
+-- those that a script may end with that can't be performed: the one that was to come, a fault of the source, or want of memory
+abbrev pub IsRefusedWith : Expected → ℕ → Type 0
+IsRefusedWith e code = (code ≡ e.status) ⊎ (code ≡ 5) ⊎ (code ≡ 9)

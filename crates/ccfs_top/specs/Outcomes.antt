@@ -21,7 +21,7 @@ use Rattle.recovery.specs.Recovering.{shown_for_now}
 use Rattle.ccfs_top.specs.declared.stop.Stop.{Stop}
 use Rattle.ccfs_top.specs.Found.{IsFound}
 use Rattle.ccfs_top.specs.Images.{Image, IsImage, Finding, Good, Spoilt, Unread, Finds, RecoversTo}
-use Rattle.ccfs_top.specs.Runs.{Expected, further, ran, calls_in, expected, over, printed}
+use Rattle.ccfs_top.specs.Runs.{Expected, further, ran, calls_in, expected, over, printed, final_number, final_tree}
 use Rattle.ccfs_top.specs.Ends.{EndsWith, Wrote, joined}
 use Rattle.ccfs_top.specs.Stops.{Decides, Grew, status_of}
 use Rattle.ccfs_top.specs.Reached.{history_to}
@@ -96,10 +96,21 @@ pub record Halts (e : Expected) (stop : Stop) (Left : ℕ → Type 0) (sink_tell
   pub leaves : Left lines
   pub grew : sink_tells → Grew e stop lines text0 text1
 
+-- each image that a crash now leaves shows what these calls made durable over an image, and no more
+abbrev pub ShowsFinal : {X : Type 0} → Ghosts X → X → Image → List Call → Type 0
+ShowsFinal d new image calls = (c : List ℕ) → d.may_leave new c → shown_for_now c ≡ Some (final_number image calls, picture (final_tree image calls))
+
+-- the same over what a run found, which was good
+abbrev pub LeavesFinal : {X : Type 0} → Ghosts X → X → List Call → Finding Image → Type 0
+LeavesFinal d new calls (Good image) = ShowsFinal d new image calls
+LeavesFinal d new calls (Spoilt kind block) = ⊥
+LeavesFinal d new calls Unread = ⊥
+
 -- A run over an image that came to its end, with this number.
 pub record Done {X : Type 0} (d : Ghosts X) (old new : X) (calls : List Call) (image : Image) (number : ℕ) (sink_tells : Type 0) (text0 text1 : List ℕ) : Type 0 where
   pub batches : number ≡ (ran image calls).batches
   pub kept : CrashSafe d old new image calls (length (ran image calls).replies)
+  pub exact : ShowsFinal d new image calls
   pub text : sink_tells → text1 ≡ text0 ++ (joined (ran image calls).replies ++ (ran image calls).last)
 
 -- The same over the image that was found on a disk.
@@ -127,6 +138,7 @@ pub record Ran {X : Type 0} (d : Ghosts X) (old new : X) (script : List ℕ) (si
   pub lines : ℕ
   pub ends : EndsWith (expected script seen) lines code number
   pub leaves : Leaves d old new (calls_in (calls_of script)) found seen code lines
+  pub exact : code ≡ 0 → LeavesFinal d new (calls_in (calls_of script)) seen
   pub wrote : sink_tells → Wrote (expected script seen) sink_failed lines code text0 text1
 
 -- A tree that is printed, or why it isn't, where these were the contents of the disk.

@@ -126,3 +126,15 @@ IsLate Sink = Unit {0}
 IsLate Disk = Unit {0}
 IsLate (BadImage bad) = Unit {0}
 IsLate NoMemory = Unit {0}
+
+-- what may stop a run before its script is known to be right: the source, a script that is refused, or want of memory
+abbrev pub IsOfScript : Stop → Type 0
+IsOfScript Usage = ⊥
+IsOfScript Long = Unit {0}
+IsOfScript (BadLine line) = Unit {0}
+IsOfScript (NotBuilt line) = Unit {0}
+IsOfScript Source = Unit {0}
+IsOfScript Sink = ⊥
+IsOfScript Disk = ⊥
+IsOfScript (BadImage bad) = ⊥
+IsOfScript NoMemory = Unit {0}

@@ -6,12 +6,12 @@ ghost use Rattle.script_text.specs.Scripts.{calls_of};
 ghost use Rattle.script_text.specs.Texts.{usage_line};
 ghost use Rattle.gate_journal.specs.Runs.{Quiet};
 ghost use Rattle.ccfs_top.specs.Asked.{Mkfs, Run, Tree, IsStatusOf, asked_by};
-ghost use Rattle.ccfs_top.specs.Ends.{EndsWith, IsEarly, IsMadeStatus, IsRefusal, IsRunStatus, IsTreeStatus, Wrote};
+ghost use Rattle.ccfs_top.specs.Ends.{EndsWith, IsEarly, IsMadeStatus, IsRefusal, IsRefusedWith, IsRunStatus, IsTreeStatus, Wrote};
 ghost use Rattle.ccfs_top.specs.Images.{Unread};
 ghost use Rattle.ccfs_top.specs.Outcomes.{DoneOn, HaltsOn, Ran, Printed, IsNew};
 ghost use Rattle.ccfs_top.specs.Runs.{IsReady, IsUnready, alone, calls_in, expected, fresh};
 ghost use Rattle.ccfs_top.specs.Steady.{Rises, Steady, StoppedBySource, Sure, Unmoved};
-ghost use Rattle.ccfs_top.specs.Stops.{Decides, IsLate, Told, SaidOf};
+ghost use Rattle.ccfs_top.specs.Stops.{Decides, IsLate, IsOfScript, Told, SaidOf};
 
 use crate::ended::Ended;
 use crate::finish::{Finished, run_disk};
@@ -65,6 +65,7 @@ fn run_script<D: Disk, S: Source, K: Sink>(
     ensures sure { D.tells → IfErr result (λ r. Sure D.Disk disk r.kept (r.fault ≡ Stop.Disk)) }
     ensures untouched { IfErr result (λ refused. (IsLate refused.fault → ⊥) → refused.kept ≡ disk) }
     ensures unready { S.tells → IsUnready (S.left script.old) → IsErr result }
+    ensures unready_cause { S.tells → IsUnready (S.left script.old) → IfErr result (λ refused. IsOfScript refused.fault) }
     ensures unready_untouched { S.tells → IsUnready (S.left script.old) → IfErr result (λ refused. refused.kept ≡ disk) }
 {
     match read_calls(alloc, script) {
@@ -107,6 +108,7 @@ fn run<D: Disk, S: Source, K: Sink>(alloc: Global, disk: D, script: &mut S, out:
     ensures settled { D.tells → result.status ≡ 0 → D.in_doubt result.disk ≡ false }
     ensures untouched { IsEarly result.status → result.disk ≡ disk }
     ensures unready_untouched { S.tells → IsUnready (S.left script.old) → result.disk ≡ disk }
+    ensures unready { S.tells → IsUnready (S.left script.old) → IsRefusedWith (expected (S.left script.old) Unread) result.status }
 {
     match run_script(alloc, disk, script, out) {
         Ok(Finished { batches, disk }) => Ended {
@@ -218,6 +220,8 @@ pub fn shell<D: Disk, S: Source, K: Sink>(
     // Until the words and the script are known to be right, the disk has no call.
     ensures untouched { IsEarly result.status → result.disk ≡ disk }
     ensures unready_untouched { asked_by words.now ≡ Some Run → S.tells → IsUnready (S.left script.old) → result.disk ≡ disk }
+    ensures unready { asked_by words.now ≡ Some Run → S.tells → IsUnready (S.left script.old)
+        → IsRefusedWith (expected (S.left script.old) Unread) result.status }
 {
     match row_of(words) {
         None => ended_by(alloc, Stop::Usage, disk, out),

@@ -4,3 +4,4 @@ pub mod Found
 pub mod Lines
 pub mod Asked
 pub mod Cuts
+pub mod Composing

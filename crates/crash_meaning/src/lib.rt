@@ -8,7 +8,9 @@
 #![tactic(auto)]
 
 ghost use Rattle.crash_meaning.specs.Laws.{ImagesRecoverToTrees, TheseForNow, FoundTreesKeepWithin, CallsMayBeMade, ScriptsAreLegal, CallsGoOn, CrashesMeanCuts, ScriptCrashesMeanCuts, MomentsMeanCuts, ScriptMomentsMeanCuts, RunsMeanCuts};
+ghost use Rattle.crash_meaning.specs.Composing.{RowsCompose};
 
+use ccfs_base::Sink;
 use disk_model::Disk;
 
 /// What an image recovers to is a tree: also what is opened until files have bytes and may stay open without a name.
@@ -55,9 +57,16 @@ pub fn runs_mean_cuts<D: Disk>()
     ensures { RunsMeanCuts D.Disk }
 {}
 
+/// On an image that was just made a run that ends with status 0 writes its replies and its tree; and `tree`, on the disk that the
+/// run left, prints the same tree under the same number: no more is durable there than what was acknowledged.
+pub fn rows_compose<D: Disk, K: Sink>()
+    ensures { RowsCompose D.Disk K.Sink }
+{}
+
 #[cfg(test)]
 mod tests {
     use super::*;
+    use ccfs_base::MemSink;
     use disk_model::MemDisk;
 
     #[test]
@@ -69,5 +78,6 @@ mod tests {
         crashes_mean_cuts();
         moments_mean_cuts();
         runs_mean_cuts::<MemDisk>();
+        rows_compose::<MemDisk, MemSink>();
     }
 }

@@ -13,7 +13,7 @@ use Rattle.ccfs_top.specs.Outcomes.{CrashSafe, Halts}
 use Rattle.ccfs_top.specs.Runs.{image_by, final_number, final_tree, ran}
 use Rattle.ccfs_top.proofs.Ending.{fault_late}
 use Rattle.ccfs_top.proofs.Viewing.{shown_of}
-use Rattle.ccfs_top.proofs.Finishing.{kept_then, halts_tree}
+use Rattle.ccfs_top.proofs.Finishing.{kept_then, shown_then, halts_tree}
 use Rattle.ccfs_top.proofs.finish.run_session.Goals as goal
 
 told_stop : {x y : Stop} → ◌≡◌ {A = Result (Unit {0}) Stop} (Err x) (Err y) → x ≡ y
@@ -66,10 +66,14 @@ returns-in-Ok-write_shown-clause-done g c = λ told.
     let settled : d.in_doubt disk ≡ false = ap d.in_doubt is ∙ v.settled told c.in-Ok.ensures.working in
     let holds = v.sound told c.in-Ok.ensures.working (d.seen v.disk) (g.met.D.Disk.may_leave_seen told v.disk) in
     let shows : shown_for_now (d.seen disk) ≡ Some (number, items) = ap (λ x. shown_for_now (d.seen x)) is ∙ shown_of v.geometry v.half v.volume.items (d.seen v.disk) number items holds c.in-Ok.ensures.shows in
+    let quiet = subst (λ x. Quiet d x new) is (c.in-Ok-write_shown.ensures.quiet told) in
+    let each : (x : List ℕ) → d.may_leave v.disk x → shown_for_now x ≡ Some (number, items)
+    = λ x may. shown_of v.geometry v.half v.volume.items x number items (v.sound told c.in-Ok.ensures.working x may) c.in-Ok.ensures.shows in
     let old_text = g.K.Sink.held c.args.out.now in
     let e = ran image calls in record {
       batches = c.in-Ok-write_shown.ensures.number told settled number items shows;
-      kept = kept_then d s.volume.disk v.disk new image calls _ (g.met.D.Disk.counts_now told) (c.in-Ok.ensures.kept told) (subst (λ x. Quiet d x new) is (c.in-Ok-write_shown.ensures.quiet told));
+      kept = kept_then d s.volume.disk v.disk new image calls _ (g.met.D.Disk.counts_now told) (c.in-Ok.ensures.kept told) quiet;
+      exact = shown_then d v.disk new (number, items) (g.met.D.Disk.counts_now told) each quiet;
       text = λ sink_told. c.in-Ok-write_shown.ensures.text told sink_told settled number items shows ∙ ap (λ (z : List ℕ). z ++ e.last) (c.in-Ok.ensures.text sink_told)
           ∙ append_assoc old_text (joined e.replies) e.last;
     }

@@ -3,6 +3,7 @@ use Rattle.fault_counts.specs.Counts.{Rose}
 use Rattle.ccfs_top.specs.Images.{Unread}
 use Rattle.ccfs_top.specs.Runs.{expected}
 use Rattle.ccfs_top.proofs.Closing.{run_status, refusal_status, not_refused, early_stop}
+use Rattle.ccfs_top.proofs.Statuses.{unready_status}
 use Rattle.ccfs_top.proofs.Shelling.{ran_whole, ran_stopped}
 use Rattle.ccfs_top.proofs.top.run.Goals as goal
 
@@ -56,3 +57,13 @@ returns-in-Err-clause-untouched g c = λ early.
 
 pub returns-in-Err-clause-unready_untouched : goal.returns-in-Err-clause-unready_untouched
 returns-in-Err-clause-unready_untouched g c = λ told unready. c.ended_by.ensures.disk ∙ c.in-Err.ensures.unready_untouched told unready
+
+pub returns-in-Ok-clause-unready : goal.returns-in-Ok-clause-unready
+returns-in-Ok-clause-unready g c = λ told unready.
+    let failed = c.in-Ok.ensures.unready told unready in
+    absurd (cc failed)
+
+pub returns-in-Err-clause-unready : goal.returns-in-Err-clause-unready
+returns-in-Err-clause-unready g c = λ told unready.
+    unready_status (expected (g.S.Source.left c.args.script.now) Unread) c.in-Err.field-0.fault c.ended_by.result.status c.ended_by.ensures.told (c.in-Err.ensures.unready_cause told unready)
+    (c.in-Err.ensures.refused told)

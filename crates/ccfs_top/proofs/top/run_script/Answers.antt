@@ -6,6 +6,7 @@ use Rattle.ccfs_top.specs.Images.{Unread}
 use Rattle.ccfs_top.specs.Runs.{IsReady, expected}
 use Rattle.ccfs_top.specs.Stops.{IsLate}
 use Rattle.ccfs_top.proofs.Closing.{script_decides}
+use Rattle.ccfs_top.proofs.Statuses.{of_script}
 use Rattle.ccfs_top.proofs.Shelling.{refused_script, halts_script, halts_ready}
 use Rattle.ccfs_top.proofs.top.run_script.Goals as goal
 
@@ -40,6 +41,9 @@ returns-in-Ok-clause-unready g c = λ told unready. absurd (unready c.deref.resu
 pub returns-in-Ok-clause-unready_untouched : goal.returns-in-Ok-clause-unready_untouched
 returns-in-Ok-clause-unready_untouched g c = λ told unready. absurd (unready c.deref.result.now (subst (IsReady (g.S.Source.left c.args.script.now)) (sym c.deref.ensures.value) (c.in-Ok.ensures.ok told)))
 
+pub returns-in-Ok-clause-unready_cause : goal.returns-in-Ok-clause-unready_cause
+returns-in-Ok-clause-unready_cause g c = λ told unready. absurd (unready c.deref.result.now (subst (IsReady (g.S.Source.left c.args.script.now)) (sym c.deref.ensures.value) (c.in-Ok.ensures.ok told)))
+
 -- ---- a script that is refused
 
 pub returns-in-Err-clause-refused : goal.returns-in-Err-clause-refused
@@ -59,3 +63,6 @@ returns-in-Err-clause-halts g c = λ told disk_told.
     (λ is. c.in-Err.ensures.long told (ap (λ z. Err z) (c.stop_of_script.ensures.long.1 is)))
     (λ line is. c.in-Err.ensures.bad_line told line (ap (λ z. Err z) ((c.stop_of_script.ensures.bad_line line).1 is)))
     (λ line is. c.in-Err.ensures.not_built told line (ap (λ z. Err z) ((c.stop_of_script.ensures.not_built line).1 is))))
+
+pub returns-in-Err-clause-unready_cause : goal.returns-in-Err-clause-unready_cause
+returns-in-Err-clause-unready_cause g c = λ told unready. of_script c.stop_of_script.result c.stop_of_script.ensures.others
